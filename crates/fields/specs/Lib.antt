@@ -1,0 +1,4 @@
+pub mod Kinds
+pub mod Names
+pub mod Numbers
+pub mod Records

@@ -1,0 +1,6 @@
+// The byte order of a file.
+#[derive(Clone, Copy, PartialEq, Eq, Debug)]
+pub enum Endianness {
+    Little,
+    Big,
+}
