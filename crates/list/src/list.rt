@@ -1,6 +1,6 @@
 // A list over a caller's slice.
 ghost use mathlib.Core.Path.{_≡_};
-ghost use Prim.Native.Nat.{_-_};
+ghost use Prim.Native.Nat.{_+_, _-_, _^_, _<_};
 ghost use denote.Ref.{name};
 ghost use lib.ListN.{length};
 ghost use Rattle.std.specs.shelf.Maps.{nth};
@@ -58,7 +58,8 @@ impl<'a, T: Copy> List<'a, T> {
 
     // How many more records there is room for.
     pub fn free(&self) -> usize
-        ensures { λ r. ⌜ r ≡ free (contentsOf (now (self .entry))) ⌝ }
+        ensures value { λ r. ⌜ r ≡ free (contentsOf (now (self .entry))) ⌝ }
+        ensures bound { λ r. ⌜ now (self .entry) .count + r < 2 ^ 64 ⌝ }
     {
         self.slots.len().saturating_sub(self.count)
     }

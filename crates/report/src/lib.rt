@@ -3,3 +3,6 @@
 // crates that read; above, the programs, which only choose what to print.
 pub mod cpu;
 pub mod member;
+pub mod section;
+pub mod segment;
+pub mod shown;

@@ -1,0 +1,69 @@
+// One library, read whole.
+use fields::width::Width;
+use list::list::List;
+use reader::reading::Reading;
+use reader::state::StepAnswer;
+use reader::walk::Walk;
+use reader::walk::open;
+use sections::kind::SectionKind;
+use sections::record::SectionRecord;
+use sections::record::SegmentRecord;
+use source::refusal::Refusal;
+use source::source::LentSource;
+use source::source::Source;
+
+pub const NO_SEGMENT: SegmentRecord = SegmentRecord {
+    place: 0,
+    first: 0,
+    count: 0,
+    wrapped: false,
+};
+
+pub const NO_SECTION: SectionRecord = SectionRecord {
+    number: 0,
+    kind: SectionKind::Unknown,
+    place: 0,
+    addr: 0,
+    size: 0,
+    offset: 0,
+};
+
+// How many slots suffice for the segments and sections of a library: each has a record of 56 bytes
+// or more in the command table, whose length has 32 bits.
+pub fn slots<S: Source>(s: &S) -> usize {
+    (s.len().min(0xffff_ffff) / 56) as usize
+}
+
+// Steps to the end of the commands. Each step but the last treats one, of which there are fewer
+// than 2^32.
+fn step_to_end<S: Source, W: Width>(
+    walk: &mut Walk<&S, W>,
+    segments: &mut List<SegmentRecord>,
+    sections: &mut List<SectionRecord>,
+) -> Result<(), Refusal> {
+    for _ in 0..0x1_0000_0000u64 {
+        match walk.step(segments, sections)? {
+            StepAnswer::End | StepAnswer::Broken => return Ok(()),
+            StepAnswer::Segment | StepAnswer::Symbols | StepAnswer::Passed => {}
+        }
+    }
+    Ok(())
+}
+
+// The reading of a library, with its segments and sections listed, or the first refusal.
+pub fn read_library<'a, S: Source, W: Width + Drop>(
+    s: &'a S,
+    width: W,
+    segments: &mut List<SegmentRecord>,
+    sections: &mut List<SectionRecord>,
+) -> Result<Reading<&'a S, W>, Refusal> {
+    let mut walk = match open(s, width) {
+        Ok(walk) => walk,
+        Err((e, _)) => return Err(e),
+    };
+    step_to_end(&mut walk, segments, sections)?;
+    match walk.finish() {
+        Ok(reading) => Ok(reading),
+        Err((e, _)) => Err(e),
+    }
+}

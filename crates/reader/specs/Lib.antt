@@ -1,0 +1,4 @@
+pub mod Commands
+pub mod Layouts
+pub mod Readings
+pub mod Walks

@@ -1,0 +1,4 @@
+pub mod Layouts
+pub mod Listings
+pub mod Offsets
+pub mod Queries

@@ -1,0 +1,5 @@
+pub mod Kinds
+pub mod Layouts
+pub mod Listings
+pub mod Offsets
+pub mod Queries
