@@ -10,3 +10,5 @@ mod numbers;
 mod records;
 #[cfg(test)]
 mod sources;
+#[cfg(test)]
+mod walks;
