@@ -75,6 +75,14 @@ module _ (wide : Bool) (xs : List ℕ) (t : SectionTable) where
       startsFrom (suc n) place c ≡ startsFrom n (next place) c′
   starts-zero-filled n place c c′ b o = cond-false _ _ _ b ∙ ap (startsFrom n (next place)) o
 
+  -- below 4 GiB nothing is refused, and nothing moves
+  pub checked-still : (n place : ℕ) (c : SectionOffsets) → place + n * sectionSize wide ≤ length xs → c .«beyond_4gib» ≡ false → checked wide xs t n place c ≡ Ok c
+  checked-still zero place c h b = refl
+  checked-still (suc n) place c h b =
+      let k = one-less n place h in
+      let p = at-stored c (at place) (and-left _ _ b) in
+      checked-start n place c c _ (k .0) (p .0) (p .1) ∙ checked-still n (next place) c (k .1) b
+
   -- the cursor beyond 4 GiB, before the true sums reach 2^64
   pub record Far (c : SectionOffsets) : Type 0 where
     pub beyond : c .«beyond_4gib» ≡ true

@@ -29,6 +29,12 @@ pub fn check_sections<S: Source, W: Width>(
     ensures { λ r. ⌜ r ≡ checked (W·Width .wide) (S·Source .bytes (now (s .entry))) table (table .count) (table .place) offsets ⌝ }
 {
     let size = W::either(68, 80);
+    // Stored offsets stand below 4 GiB, so that no section needs to be read.
+    let len = s.len();
+    let bytes = u64::from(table.count) * size;
+    if !offsets.beyond_4gib && bytes <= len && table.place <= len - bytes {
+        return Ok(offsets);
+    }
     let mut place = table.place;
     let mut offsets = offsets;
     for _ in 0..table.count {

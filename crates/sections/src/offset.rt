@@ -27,7 +27,7 @@ pub fn file_backed(flags: u32) -> bool
 // The cursor over the sections of one segment.
 #[derive(Clone, Copy)]
 pub struct SectionOffsets {
-    beyond_4gib: bool,
+    pub(crate) beyond_4gib: bool,
     segment_end: u64,
     previous_end: u64,
     wrapped: bool,
