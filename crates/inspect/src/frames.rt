@@ -101,7 +101,7 @@ fn put_thin<S: Source, W: Width + Drop>(
     s: &S,
     width: W,
 ) -> Result<(), AnyError> {
-    let room = slots(s);
+    let room = slots::<S, W>(s);
     let mut segment_slots = vec![in heap; NO_SEGMENT; room]?;
     let mut section_slots = vec![in heap; NO_SECTION; room]?;
     let mut segments = List::new(segment_slots.as_mut_slice());

@@ -1,4 +1,8 @@
 // One library, read whole.
+use fields::endian::Endianness;
+use fields::header::MachHeader;
+use fields::header::endian_of;
+use fields::number::u32_at;
 use fields::width::Width;
 use list::list::List;
 use reader::reading::Reading;
@@ -29,9 +33,16 @@ pub const NO_SECTION: SectionRecord = SectionRecord {
 };
 
 // How many slots suffice for the segments and sections of a library: each has a record of 56 bytes
-// or more in the command table, whose length has 32 bits.
-pub fn slots<S: Source>(s: &S) -> usize {
-    (s.len().min(0xffff_ffff) / 56) as usize
+// or more in the command table.
+pub fn slots<S: Source, W: Width>(s: &S) -> usize {
+    let magic = u32_at(s, 0, Endianness::Big).unwrap_or(0);
+    let Some(endian) = endian_of::<W>(magic) else {
+        return 0;
+    };
+    match MachHeader::read::<S, W>(s, endian) {
+        Some(header) => (s.len().min(u64::from(header.sizeofcmds)) / 56) as usize,
+        None => 0,
+    }
 }
 
 // Steps to the end of the commands. Each step but the last treats one, of which there are fewer

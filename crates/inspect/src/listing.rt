@@ -62,7 +62,7 @@ fn list_library<S: Source, W: Width + Drop>(
     width: W,
     find: Option<&str>,
 ) -> io::Result<()> {
-    let room = slots(s);
+    let room = slots::<S, W>(s);
     let mut segment_slots = vec![in rt.alloc(); NO_SEGMENT; room]?;
     let mut section_slots = vec![in rt.alloc(); NO_SECTION; room]?;
     let mut segments = List::new(segment_slots.as_mut_slice());
