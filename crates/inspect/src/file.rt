@@ -13,7 +13,7 @@ fn read_whole(rt: &LibcRuntime, path: &str) -> Result<Vec<u8>, AnyError> {
 }
 
 // The same; where it fails, one line says of which file and why.
-pub fn read_file(rt: &LibcRuntime, path: &str) -> Result<Vec<u8>, AnyError> {
+pub(crate) fn read_file(rt: &LibcRuntime, path: &str) -> Result<Vec<u8>, AnyError> {
     match read_whole(rt, path) {
         Ok(bytes) => Ok(bytes),
         Err(e) => {

@@ -184,7 +184,7 @@ fn answer_one(rt: &LibcRuntime, all: &[u8], at: usize) -> Result<Option<usize>, 
     Ok(Some(end))
 }
 
-pub fn answer_frames(rt: &LibcRuntime) -> Result<(), AnyError> {
+pub(crate) fn answer_frames(rt: &LibcRuntime) -> Result<(), AnyError> {
     let mut all = Vec::new(rt.alloc());
     rt.stdin().read_to_end(&mut all)?;
     let mut at = 0usize;

@@ -16,14 +16,14 @@ use source::refusal::Refusal;
 use source::source::LentSource;
 use source::source::Source;
 
-pub const NO_SEGMENT: SegmentRecord = SegmentRecord {
+pub(crate) const NO_SEGMENT: SegmentRecord = SegmentRecord {
     place: 0,
     first: 0,
     count: 0,
     wrapped: false,
 };
 
-pub const NO_SECTION: SectionRecord = SectionRecord {
+pub(crate) const NO_SECTION: SectionRecord = SectionRecord {
     number: 0,
     kind: SectionKind::Unknown,
     place: 0,
@@ -34,7 +34,7 @@ pub const NO_SECTION: SectionRecord = SectionRecord {
 
 // How many slots suffice for the segments and sections of a library: each has a record of 56 bytes
 // or more in the command table.
-pub fn slots<S: Source, W: Width>(s: &S) -> usize {
+pub(crate) fn slots<S: Source, W: Width>(s: &S) -> usize {
     let magic = u32_at(s, 0, Endianness::Big).unwrap_or(0);
     let Some(endian) = endian_of::<W>(magic) else {
         return 0;
@@ -62,7 +62,7 @@ fn step_to_end<S: Source, W: Width>(
 }
 
 // The reading of a library, with its segments and sections listed, or the first refusal.
-pub fn read_library<'a, S: Source, W: Width + Drop>(
+pub(crate) fn read_library<'a, S: Source, W: Width + Drop>(
     s: &'a S,
     width: W,
     segments: &mut List<SegmentRecord>,

@@ -142,7 +142,7 @@ fn list_members<S: Source, W: Width>(
 }
 
 // What a source holds.
-pub fn list<S: Source>(rt: &LibcRuntime, s: &S, find: Option<&str>) -> io::Result<()> {
+pub(crate) fn list<S: Source>(rt: &LibcRuntime, s: &S, find: Option<&str>) -> io::Result<()> {
     let n = s.len();
     let kind = FileKind::of(s);
     println!(rt, "{n} bytes, {kind}")?;
