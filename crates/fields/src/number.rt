@@ -8,7 +8,7 @@ use source::source::Source;
 
 // The N bytes at p, where they all remain.
 fn bytes_at<S: Source, const N: usize>(s: &S, p: u64) -> Option<[u8; N]>
-    ensures { result ≡ whole (bytes s.now) p N (run p N (bytes s.now)) }
+    ensures { result ≡ whole (S.bytes s.now) p N (run p N (S.bytes s.now)) }
 {
     let n = N as u64;
     let len = s.len();
@@ -41,21 +41,21 @@ fn number_of(w: &[u8], endian: Endianness) -> u64
 }
 
 pub fn u16_at<S: Source>(s: &S, p: u64, endian: Endianness) -> Option<u16>
-    ensures { result ≡ field (bytes s.now) p 2 endian }
+    ensures { result ≡ field (S.bytes s.now) p 2 endian }
 {
     let w = bytes_at::<S, 2>(s, p)?;
     Some(number_of(&w, endian) as u16)
 }
 
 pub fn u32_at<S: Source>(s: &S, p: u64, endian: Endianness) -> Option<u32>
-    ensures { result ≡ field (bytes s.now) p 4 endian }
+    ensures { result ≡ field (S.bytes s.now) p 4 endian }
 {
     let w = bytes_at::<S, 4>(s, p)?;
     Some(number_of(&w, endian) as u32)
 }
 
 pub fn u64_at<S: Source>(s: &S, p: u64, endian: Endianness) -> Option<u64>
-    ensures { result ≡ field (bytes s.now) p 8 endian }
+    ensures { result ≡ field (S.bytes s.now) p 8 endian }
 {
     let w = bytes_at::<S, 8>(s, p)?;
     Some(number_of(&w, endian))

@@ -3,8 +3,8 @@ use Rattle.fields.specs.Records.{fat_header, fat_magic}
 use Rattle.fat.specs.Members.{end_of_table, no_header, other_magic, no_table}
 use Rattle.fat.proofs.count.Goals as goal
 
-pub returns-in-default : goal.returns-in-default
-returns-in-default g c =
+pub returns-in_default : goal.returns-in_default
+returns-in_default g c =
     let xs = g.S.Source.bytes c.args.source.now in
     let short : length xs < 8 = search rules in
     rw c.at.ensures (no_header short)

@@ -10,7 +10,7 @@ loop-i-init g c = (length-replicate g.row.N 0, refl)
 pub loop-i-preserved : goal.loop-i-preserved
 loop-i-preserved g c = (
   simp length-set c.loop-i.invariant.0,
-  run_more _ c.loop-i.w c.args.p c.loop-i.i _ (omega arith) (sym c.byte.ensures ∙ c.in-ok-w.was) c.loop-i.invariant.1,
+  run_more _ c.loop-i.w c.args.p c.loop-i.i _ (omega arith) (sym c.byte.ensures ∙ c.in_ok-w.was) c.loop-i.invariant.1,
 )
 
 pub returns : goal.returns

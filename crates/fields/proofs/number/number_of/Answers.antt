@@ -7,11 +7,11 @@ use Rattle.fields.proofs.number.number_of.Goals.{in-Little, in-Big}
 pub loop-i-init : goal.loop-i-init
 loop-i-init c = (little_none c.args.endian c.args.w.now _ refl, lit< tt)
 
-pub overflow-mul-value : goal.overflow-mul-value
-overflow-mul-value c = record { fits = omega (arith, room_for_one _ _ c.loop-i.invariant.1 (omega arith)) }
+pub overflow_mul-value : goal.overflow_mul-value
+overflow_mul-value c = record { fits = omega (arith, room_for_one _ _ c.loop-i.invariant.1 (omega arith)) }
 
-pub overflow-add-value : goal.overflow-add-value
-overflow-add-value c =
+pub overflow_add-value : goal.overflow_add-value
+overflow_add-value c =
     let b : c.match-endian.b < 256 = search rules in
     record { fits = omega (arith, room_for_one _ _ c.loop-i.invariant.1 (omega arith)) }
 

@@ -3,9 +3,9 @@ use Rattle.reader.specs.Tables.{symbol_at}
 use Rattle.reader.proofs.table.symbol_at.Goals as goal
 
 -- src/table.rt:28:9
-pub returns-in-default : goal.returns-in-default
+pub returns-in_default : goal.returns-in_default
 unfolding symbol_at
-returns-in-default g c = search rules
+returns-in_default g c = search rules
 
 -- src/table.rt:31:9
 pub returns-then-number-from : goal.returns-then-number-from

@@ -18,9 +18,9 @@ pub returns-then-rest-lt8 : goal.returns-then-rest-lt8
 unfolding next_of
 returns-then-rest-lt8 g c = search rules
 
-pub returns-in-default : goal.returns-in-default
+pub returns-in_default : goal.returns-in_default
 unfolding next_of
-returns-in-default g c = search rules
+returns-in_default g c = search rules
 
 pub returns : goal.returns
 unfolding next_of

@@ -2,9 +2,9 @@ use Rattle.std.proofs.Common.{rules}
 use Rattle.reader.specs.Commands.{plan_of}
 use Rattle.reader.proofs.treat.plan_segment.Goals as goal
 
-pub returns-in-default : goal.returns-in-default
+pub returns-in_default : goal.returns-in_default
 unfolding plan_of
-returns-in-default g c = search rules
+returns-in_default g c = search rules
 
 pub returns-then-cmdsize-size : goal.returns-then-cmdsize-size
 unfolding plan_of

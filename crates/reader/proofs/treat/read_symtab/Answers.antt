@@ -2,9 +2,9 @@ use Rattle.std.proofs.Common.{rules}
 use Rattle.reader.specs.Commands.{symtab_of}
 use Rattle.reader.proofs.treat.read_symtab.Goals as goal
 
-pub returns-in-default : goal.returns-in-default
+pub returns-in_default : goal.returns-in_default
 unfolding symtab_of
-returns-in-default g c = search rules
+returns-in_default g c = search rules
 
 pub returns-then-command-lt24 : goal.returns-then-command-lt24
 unfolding symtab_of

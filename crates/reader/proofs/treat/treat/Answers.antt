@@ -10,14 +10,14 @@ pub returns-in-Err : goal.returns-in-Err
 unfolding deed_of
 returns-in-Err g c = search rules
 
-pub returns-in-Ok-read-symtab : goal.returns-in-Ok-read-symtab
+pub returns-in-Ok-read_symtab : goal.returns-in-Ok-read_symtab
 unfolding deed_of
-returns-in-Ok-read-symtab g c = search rules
+returns-in-Ok-read_symtab g c = search rules
 
-pub returns-in-Err-read-symtab : goal.returns-in-Err-read-symtab
+pub returns-in-Err-read_symtab : goal.returns-in-Err-read_symtab
 unfolding deed_of
-returns-in-Err-read-symtab g c = search rules
+returns-in-Err-read_symtab g c = search rules
 
-pub returns-else-command-eq-LC-SYMTAB : goal.returns-else-command-eq-LC-SYMTAB
+pub returns-else-command-eq-LC_SYMTAB : goal.returns-else-command-eq-LC_SYMTAB
 unfolding deed_of
-returns-else-command-eq-LC-SYMTAB g c = search rules
+returns-else-command-eq-LC_SYMTAB g c = search rules

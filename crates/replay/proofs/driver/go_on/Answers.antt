@@ -51,5 +51,5 @@ returns g c =
       run = sym (ap (λ l. final_of wide xs l is) none) ∙ inv.1;
       told = sym (ap (λ l. push_all (answers_of wide xs text l is) (contents_of h.answers)) none) ∙ inv.2;
       slices = inv.3;
-      told-slice = inv.4;
+      told_slice = inv.4;
     }

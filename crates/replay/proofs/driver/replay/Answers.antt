@@ -10,7 +10,7 @@ use Rattle.replay.proofs.driver.replay.Goals as goal
 pub returns-in-Ok : goal.returns-in-Ok
 returns-in-Ok g c =
     let o = c.in-Ok.ensures in
-    let t = c.go-on.ensures in
+    let t = c.go_on.ensures in
     let bytes = g.S.Source.bytes in
     let wide = g.W.Width.wide in
     let cs = c.args.calls.now in
@@ -21,9 +21,9 @@ returns-in-Ok g c =
     let y = c.in-Ok.walk.source in
     let xs = bytes c.args.source in
     let same : bytes y ≡ xs = ap bytes o.1 in
-    let last = c.go-on.new in
+    let last = c.go_on.new in
     let left = lists_of last.segments last.sections last.files last.entries in
-    let final : run_at c.go-on.result left ≡ final_of wide xs cs (begun_at w before) = t.run ∙ ap (λ b. final_of wide b cs (begun_at w before)) same in
+    let final : run_at c.go_on.result left ≡ final_of wide xs cs (begun_at w before) = t.run ∙ ap (λ b. final_of wide b cs (begun_at w before)) same in
     record {
       stage = (t.source ∙ o.1, record { first = w; opens = o.0; comes_to = final });
       lists = ap (λ r. r.lists) final ∙ ap (lists_by wide xs cs before) o.0;
@@ -31,7 +31,7 @@ returns-in-Ok g c =
           ∙ ap (λ b. push_all (answers_of wide b text cs (begun_at w before)) told) same
           ∙ ap (λ r. push_all (answers_by wide xs text cs before r) told) o.0;
       slices = t.slices;
-      told-slice = t.told-slice;
-      sections-right = sections_after_every_call wide xs text before cs;
+      told_slice = t.told_slice;
+      sections_right = sections_after_every_call wide xs text before cs;
       map_right = map_after_every_call wide xs text before cs;
     }

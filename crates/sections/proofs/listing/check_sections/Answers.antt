@@ -4,23 +4,23 @@ use Rattle.sections.proofs.Layouts.{checked_still}
 use Rattle.sections.proofs.Listings.{checked_none, checked_past, checked_refused, checked_more}
 use Rattle.sections.proofs.listing.check_sections.Goals as goal
 
-pub returns-in-default : goal.returns-in-default
-returns-in-default g c =
+pub returns-in_default : goal.returns-in_default
+returns-in_default g c =
     ap Err c.at.ensures
-    ∙ sym (checked_past _ _ c.args.table _ c.loop.counter c.loop.place c.loop.offsets c.loop-test.true (sym c.read.ensures.value ∙ c.in-default.is))
+    ∙ sym (checked_past _ _ c.args.table _ c.loop.counter c.loop.place c.loop.offsets c.loop-test.true (sym c.read.ensures.value ∙ c.in_default.is))
     ∙ c.loop.invariant
 
-pub returns-then-is-none : goal.returns-then-is-none
-returns-then-is-none g c =
-    ap Err c.at-then-is-none.ensures
+pub returns-then-is_none : goal.returns-then-is_none
+returns-then-is_none g c =
+    ap Err c.at-then-is_none.ensures
     ∙ sym (checked_refused _ _ c.args.table _ c.loop.counter c.loop.place c.loop.offsets c.in-Some.section c.loop-test.true
-    (sym c.read.ensures.value ∙ c.in-Some.is) (ap is_some (sym c.next.ensures.answer) ∙ c.if-is-none.ensures))
+    (sym c.read.ensures.value ∙ c.in-Some.is) (ap is_some (sym c.next.ensures.answer) ∙ c.if-is_none.ensures))
     ∙ c.loop.invariant
 
 pub loop-preserved : goal.loop-preserved
 loop-preserved g c =
     checked_more _ _ c.args.table _ c.loop.counter c.loop.place c.loop.offsets c.in-Some.section _ _ c.loop-test.true
-    (sym c.read.ensures.value ∙ c.in-Some.is) (ap is_some (sym c.next.ensures.answer) ∙ c.if-is-none.ensures) c.either-size.ensures c.next.ensures.after
+    (sym c.read.ensures.value ∙ c.in-Some.is) (ap is_some (sym c.next.ensures.answer) ∙ c.if-is_none.ensures) c.either-size.ensures c.next.ensures.after
     ∙ c.loop.invariant
 
 pub returns : goal.returns

@@ -18,6 +18,6 @@ pub returns-in-38 : goal.returns-in-38
 unfolding stab_of
 returns-in-38 g c = search rules
 
-pub returns-in-default : goal.returns-in-default
+pub returns-in_default : goal.returns-in_default
 unfolding stab_of
-returns-in-default g c = search rules
+returns-in_default g c = search rules

@@ -7,7 +7,7 @@ pub returns-then-b-eq0 : goal.returns-then-b-eq0
 returns-then-b-eq0 g c =
     let xs = g.S.Source.bytes c.args.s.now in
     let p = c.loop-p.p in
-    let zero = sym (byte_or_zero xs p _ _ c.byte.ensures c.unwrap-or-b.ensures) ∙ c.if-b-eq0.true in
+    let zero = sym (byte_or_zero xs p _ _ c.byte.ensures c.unwrap_or-b.ensures) ∙ c.if-b-eq0.true in
     let here = before_at_zero xs p c.args.end (omega arith) c.requires zero in
     sym (zero_found xs c.args.start c.args.end (p - c.args.start) c.requires (omega arith) (omega arith))
 
@@ -15,7 +15,7 @@ pub loop-p-preserved : goal.loop-p-preserved
 loop-p-preserved g c =
     let xs = g.S.Source.bytes c.args.s.now in
     let p = c.loop-p.p in
-    let here = sym (byte_or_zero xs p _ _ c.byte.ensures c.unwrap-or-b.ensures) in
+    let here = sym (byte_or_zero xs p _ _ c.byte.ensures c.unwrap_or-b.ensures) in
     let more = before_more xs p c.args.end (omega arith) c.requires (λ z. c.if-b-eq0.false (sym here ∙ z)) in
     (omega arith, omega arith)
 

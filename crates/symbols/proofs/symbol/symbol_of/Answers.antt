@@ -32,10 +32,10 @@ returns g c =
     let t = c.args.symtab in
     let x = c.args.nlist in
     let l = contents_of c.args.sections.now in
-    let row = c.record-for-row.ensures ∙ ap (record_for l) c.section-for-section.ensures in
-    let kind = c.kind-by.ensures ∙ ap (kind_by xs t x) row in
-    ap (λ a. made a c.section-for-section.result c.kind-by.result c.scope-of.result (is_weak x)) c.address-of.ensures
-    ∙ ap (λ n. made (address_of x) n c.kind-by.result c.scope-of.result (is_weak x)) c.section-for-section.ensures
-    ∙ ap (λ k. made (address_of x) (section_for x) k c.scope-of.result (is_weak x)) kind
-    ∙ ap (λ s. made (address_of x) (section_for x) (kind_by xs t x (record_for l (section_for x))) s (is_weak x)) c.scope-of.ensures
+    let row = c.record_for-row.ensures ∙ ap (record_for l) c.section_for-section.ensures in
+    let kind = c.kind_by.ensures ∙ ap (kind_by xs t x) row in
+    ap (λ a. made a c.section_for-section.result c.kind_by.result c.scope_of.result (is_weak x)) c.address_of.ensures
+    ∙ ap (λ n. made (address_of x) n c.kind_by.result c.scope_of.result (is_weak x)) c.section_for-section.ensures
+    ∙ ap (λ k. made (address_of x) (section_for x) k c.scope_of.result (is_weak x)) kind
+    ∙ ap (λ s. made (address_of x) (section_for x) (kind_by xs t x (record_for l (section_for x))) s (is_weak x)) c.scope_of.ensures
     ∙ sym (answered xs t l x (not_from_true _ (eq-eqb _ _ c.if-nlist-ne0.false)))

@@ -11,14 +11,14 @@ returns-in-Command g c =
     let a = contents_of c.args.segments.now in
     let b = contents_of c.args.sections.now in
     let e = c.take.ensures in
-    let step = ap (stepped_by g.W.Width.wide xs w a b) (sym c.next-command.ensures.value ∙ c.in-Command.is) in
+    let step = ap (stepped_by g.W.Width.wide xs w a b) (sym c.next_command.ensures.value ∙ c.in-Command.is) in
     record {
       answer = e.answer ∙ sym (ap (λ s. s.answer) step);
       source = e.source;
       state = e.state ∙ sym (ap (λ s. s.state) step);
       segments = e.segments ∙ sym (ap (λ s. s.segments) step);
       sections = e.sections ∙ sym (ap (λ s. s.sections) step);
-      segments-owner = e.segments-owner;
-      sections-owner = e.sections-owner;
+      segments_owner = e.segments_owner;
+      sections_owner = e.sections_owner;
       layout = next_segment_is_listed_as_its_only_layout g.W.Width.wide xs w a b;
     }
