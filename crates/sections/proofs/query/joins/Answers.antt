@@ -16,5 +16,5 @@ returns-in-Some c =
 pub returns-in-None : goal.returns-in-None
 returns-in-None c = (
   λ t. absurd (false≢true t),
-  λ h. absurd (strip_prefix_is c.args.name.now c.args.front.now None c.in-None.ensures.cases c.args.rest.now h),
+  λ h. absurd (strip_prefix_is Decides-eqb c.args.name.now c.args.front.now None c.in-None.ensures.cases c.args.rest.now h),
 )
