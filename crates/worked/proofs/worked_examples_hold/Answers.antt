@@ -4,4 +4,4 @@ use Rattle.worked.proofs.worked_examples_hold.Goals as goal
 
 pub returns : goal.returns
 unfolding next_start next_offsets
-returns c = record { answer = refl; hold = refl }
+returns c = record { answer = refl; offsets = refl; all = refl }
