@@ -1,11 +1,12 @@
 //! Holds a reader's answers against those of another program, the yardstick, on many small inputs.
 //!
 //!     compare YARDSTICK READER [--count N] [--seed S] [--parts LIST] [--keep DIR] [--same]
-//!         [--sample DIR]
+//!         [--sample DIR] [--ask WORD]
 //!
-//! Both programs are started with `--frames`: they read (u32 little-endian length, bytes)* and
-//! write (u32 little-endian length, text)*, a text for each input, in blocks `== 32`, `== 64`,
-//! `== fat32` and `== fat64`. The inputs come from `families.rs`; the same N and S give the same.
+//! Both programs are started with `--frames`, the reader with WORD where it is given (`--all-frames`
+//! asks ours for symbols and object maps too): they read (u32 little-endian length, bytes)* and write
+//! (u32 little-endian length, text)*, a text for each input, in blocks `== 32`, `== 64`, `== fat32` and
+//! `== fat64`. The inputs come from `families.rs`; the same N and S give the same.
 //!
 //! - `--parts` names the kinds of line to compare, with commas between them. Lines of other kinds
 //!   are left out on both sides, but a block that only one side refuses is a difference always.
@@ -41,7 +42,7 @@ use std::process::ExitCode;
 use std::time::Instant;
 
 const USAGE: &str =
-    "compare YARDSTICK READER [--count N] [--seed S] [--parts LIST] [--keep DIR] [--same] [--sample DIR]";
+    "compare YARDSTICK READER [--count N] [--seed S] [--parts LIST] [--keep DIR] [--same] [--sample DIR] [--ask WORD]";
 
 pub struct Options {
     yardstick: String,
@@ -52,6 +53,7 @@ pub struct Options {
     keep: Option<PathBuf>,
     same: bool,
     sample: Option<PathBuf>,
+    ask: String,
 }
 
 impl Options {
@@ -66,6 +68,7 @@ impl Options {
             keep: None,
             same: false,
             sample: None,
+            ask: "--frames".to_string(),
         };
         while let Some(arg) = args.next() {
             let mut value = || args.next().ok_or(format!("{arg} wants a value"));
@@ -76,6 +79,7 @@ impl Options {
                 "--parts" => options.parts = Parts::read(&value()?)?,
                 "--keep" => options.keep = Some(PathBuf::from(value()?)),
                 "--same" => options.same = true,
+                "--ask" => options.ask = value()?,
                 "--sample" => options.sample = Some(PathBuf::from(value()?)),
                 _ if arg.starts_with('-') => return Err(format!("{arg} is no option")),
                 _ => programs.push(arg),

@@ -49,8 +49,8 @@ impl Comparison {
     pub fn new(options: Options) -> io::Result<Comparison> {
         let sample = options.sample.as_deref().map(Sample::new).transpose()?;
         Ok(Comparison {
-            yardstick: Program::new(&options.yardstick),
-            reader: Program::new(&options.reader),
+            yardstick: Program::new(&options.yardstick, "--frames"),
+            reader: Program::new(&options.reader, &options.ask),
             options,
             yardstick_tally: Tally::new(),
             reader_tally: Tally::new(),

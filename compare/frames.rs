@@ -1,5 +1,5 @@
-//! The two programs: each is started with `--frames`, gets inputs as (u32 little-endian length,
-//! bytes)* and answers with texts in the same frames.
+//! The two programs: each is started with a word that asks for frames, gets inputs as (u32
+//! little-endian length, bytes)* and answers with texts in the same frames.
 
 use std::io::{self, BufReader, BufWriter, Read, Write};
 use std::process::{Child, Command, Stdio};
@@ -11,11 +11,12 @@ const PATIENCE: usize = 20;
 
 pub struct Program {
     path: String,
+    word: String,
 }
 
 impl Program {
-    pub fn new(path: &str) -> Program {
-        Program { path: path.to_string() }
+    pub fn new(path: &str, word: &str) -> Program {
+        Program { path: path.to_string(), word: word.to_string() }
     }
 
     /// The program's text for each input, or none where it ended without one; of the first inputs
@@ -60,7 +61,7 @@ impl Program {
 
     fn start(&self) -> io::Result<Child> {
         Command::new(&self.path)
-            .arg("--frames")
+            .arg(&self.word)
             .stdin(Stdio::piped())
             .stdout(Stdio::piped())
             .stderr(Stdio::null())

@@ -1,6 +1,8 @@
 // Universal files: one file that holds a library for each of several processors. A member is a
 // run of the file, so it is handed out as a window of the same source, which is a source again.
 // Below stand `source` and `fields`; above, whatever lists members or reads a library in one.
+#![tactic(auto)]
+
 ghost use Rattle.std.specs.Prelude.{◌≡◌, ℕ, ◌+◌, List, MatchResult};
 ghost use Rattle.fat.specs.Members.{Fat, NotFat, count_of, Arch, NoArch, Member, NoMember};
 

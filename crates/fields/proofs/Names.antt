@@ -1,9 +1,9 @@
 -- How a name grows byte by byte. Assumes nothing.
-use Rattle.std.proofs.Common.{◌≡◌, ℕ, suc, ◌+◌, ◌-◌, ◌<◌, ◌≤◌, cond, eqb, List, [], ◌∷◌, ◌++◌, length, get_or, take, drop, set, sym, refl, ap, ◌∙◌, append_assoc, arith, length-drop, length-take}
+use Rattle.std.proofs.Common.{◌≡◌, ℕ, suc, ◌+◌, ◌-◌, ◌<◌, ◌≤◌, List, [], ◌∷◌, ◌++◌, length, get_or, take, drop, set, sym, ap, ◌∙◌, append_assoc, arith, length-drop, length-take}
 use Rattle.std.proofs.lemmas.List.{append-nil, drop_more, take_more_set, nil_from_length}
 use Rattle.std.proofs.lemmas.Bool.{eq-eqb, ne_eqb, cond-true, cond-false}
 use Rattle.source.specs.Bytes.{run}
-use Rattle.fields.specs.Names.{before_zero, name_at}
+use Rattle.fields.specs.Names.{before_zero}
 
 -- the first byte of a run, and the rest of it
 pub run_first : (xs : List ℕ) (p n : ℕ) → 0 < n → p < length xs → run p n xs ≡ get_or xs p 0 ∷ run (p + 1) (n - 1) xs

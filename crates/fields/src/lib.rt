@@ -2,6 +2,8 @@
 // bytes, and the records of Apple's headers, at the two widths. Everything is read through a
 // source, exactly when enough bytes remain. Below it stands `source`; above it, whatever gives
 // the records a meaning.
+#![tactic(auto)]
+
 pub mod endian;
 pub mod fat;
 pub mod header;

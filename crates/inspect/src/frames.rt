@@ -22,6 +22,13 @@ use std::alloc::Global;
 use std::fmt::Write as TextWrite;
 use std::io::{Read, Write};
 
+// How much of a library a text holds: its segments and sections, or its symbols and object map too.
+#[derive(Clone, Copy)]
+pub(crate) enum Extent {
+    Sections,
+    Whole,
+}
+
 // The names that every text asks for.
 const QUERIES: [&[u8]; 9] = [
     b"__text",
@@ -167,6 +174,7 @@ fn put_thin<S: Source, W: Width + Drop>(
     out: &mut String,
     s: &S,
     width: W,
+    extent: Extent,
 ) -> anyhow::Result<()> {
     let room = slots::<S, W>(s);
     let mut segment_slots = vec![in heap; NO_SEGMENT; room]?;
@@ -178,8 +186,13 @@ fn put_thin<S: Source, W: Width + Drop>(
             put_endian::<S, W>(out, s)?;
             put_sections(out, &segments, &sections)?;
             put_finds(out, &reading, &sections)?;
-            put_symbols(out, &reading, &sections)?;
-            put_map(heap, out, &mut reading, &sections)
+            match extent {
+                Extent::Sections => Ok(()),
+                Extent::Whole => {
+                    put_symbols(out, &reading, &sections)?;
+                    put_map(heap, out, &mut reading, &sections)
+                }
+            }
         }
         Err(e) => put_refusal(out, e),
     }
@@ -210,13 +223,13 @@ fn put_fat<S: Source, W: Width>(out: &mut String, s: &S) -> anyhow::Result<()> {
     }
 }
 
-fn text_of(heap: Global, bytes: &[u8]) -> anyhow::Result<String> {
+fn text_of(heap: Global, bytes: &[u8], extent: Extent) -> anyhow::Result<String> {
     let s = Plain(bytes);
     let mut out = String::new(heap);
     out.push_str("== 32\n")?;
-    put_thin(heap, &mut out, &s, Bits32)?;
+    put_thin(heap, &mut out, &s, Bits32, extent)?;
     out.push_str("== 64\n")?;
-    put_thin(heap, &mut out, &s, Bits64)?;
+    put_thin(heap, &mut out, &s, Bits64, extent)?;
     out.push_str("== fat32\n")?;
     put_fat::<Plain, Bits32>(&mut out, &s)?;
     out.push_str("== fat64\n")?;
@@ -225,7 +238,12 @@ fn text_of(heap: Global, bytes: &[u8]) -> anyhow::Result<String> {
 }
 
 // Answers the frame at a place of the input, and returns where the next one stands.
-fn answer_one(rt: &HostRuntime, all: &[u8], at: usize) -> anyhow::Result<Option<usize>> {
+fn answer_one(
+    rt: &HostRuntime,
+    all: &[u8],
+    at: usize,
+    extent: Extent,
+) -> anyhow::Result<Option<usize>> {
     let Some(len) = u32_at(&Plain(all), at as u64, Endianness::Little) else {
         return Ok(None);
     };
@@ -233,7 +251,7 @@ fn answer_one(rt: &HostRuntime, all: &[u8], at: usize) -> anyhow::Result<Option<
         return Err(anyhow!("a frame is cut short"));
     }
     let end = at + 4 + len as usize;
-    let text = text_of(rt.alloc(), &all[at + 4..end])?;
+    let text = text_of(rt.alloc(), &all[at + 4..end], extent)?;
     let size = u32::try_from(text.len())?;
     let mut out = rt.stdout();
     out.write_all(&size.to_le_bytes())?;
@@ -241,12 +259,12 @@ fn answer_one(rt: &HostRuntime, all: &[u8], at: usize) -> anyhow::Result<Option<
     Ok(Some(end))
 }
 
-pub(crate) fn answer_frames(rt: &HostRuntime) -> anyhow::Result<()> {
+pub(crate) fn answer_frames(rt: &HostRuntime, extent: Extent) -> anyhow::Result<()> {
     let mut all = Vec::new(rt.alloc());
     rt.stdin().read_to_end(&mut all)?;
     let mut at = 0usize;
     for _ in 0..u64::MAX {
-        match answer_one(rt, &all, at)? {
+        match answer_one(rt, &all, at, extent)? {
             Some(next) => at = next,
             None => return Ok(()),
         }

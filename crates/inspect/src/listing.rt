@@ -12,9 +12,11 @@ use sections::record::{SectionRecord, SegmentRecord};
 use source::source::Source;
 use std::io;
 
-// What is asked of a library: all that is listed, the section that a name means, or one table.
+// What is asked of a library: its segments and sections, these with symbols and object map, the
+// section that a name means, or one table.
 #[derive(Clone, Copy)]
 pub(crate) enum Ask {
+    Sections,
     All,
     Find,
     Symbols,
@@ -49,6 +51,10 @@ fn print_reading<S: Source, W: Width>(
     name: &str,
 ) -> io::Result<()> {
     match ask {
+        Ask::Sections => {
+            print_segments(rt, segments)?;
+            print_sections(rt, s, sections)
+        }
         Ask::All => {
             print_segments(rt, segments)?;
             print_sections(rt, s, sections)?;

@@ -7,21 +7,24 @@ mod tables;
 
 use anyhow::anyhow;
 use file::read_file;
-use frames::answer_frames;
+use frames::{Extent, answer_frames};
 use listing::{Ask, list};
 use source::join::Join;
 use source::plain::Plain;
 use std::env;
 
 const USAGE: &str =
-    "usage: inspect FILE | FIRST SECOND | --find NAME FILE | --symbols FILE | --map FILE | --frames | --help";
+    "usage: inspect FILE, or inspect FIRST SECOND for a file in two halves, or inspect --find NAME FILE, or inspect --frames; inspect --help has the rest";
 
-const HELP: &str = "usage: inspect FILE                list what a file holds
+const HELP: &str = "usage: inspect FILE                list the segments and sections of a file
        inspect FIRST SECOND        the same, of a file in two halves
+       inspect --all FILE          list its symbols and its object map too
+       inspect --all FIRST SECOND  the same, of a file in two halves
        inspect --find NAME FILE    print the section that a name means
        inspect --symbols FILE      print the symbols alone
        inspect --map FILE          print the object map alone
        inspect --frames            answer frames of standard input with their canonical texts
+       inspect --all-frames        the same, with symbols and object maps
        inspect --help              print this";
 
 fn one(rt: &HostRuntime, path: &str, ask: Ask, name: &str) -> anyhow::Result<()> {
@@ -32,12 +35,12 @@ fn one(rt: &HostRuntime, path: &str, ask: Ask, name: &str) -> anyhow::Result<()>
 }
 
 // Two halves as one file.
-fn two(rt: &HostRuntime, first: &str, second: &str) -> anyhow::Result<()> {
+fn two(rt: &HostRuntime, first: &str, second: &str, ask: Ask) -> anyhow::Result<()> {
     let front = read_file(rt, first)?;
     let back = read_file(rt, second)?;
     print!(rt; "{first} and {second}: ")?;
     match Join::new(Plain(&front), Plain(&back)) {
-        Ok(both) => list(rt, &both, Ask::All, "")?,
+        Ok(both) => list(rt, &both, ask, "")?,
         Err(e) => println!(rt; "{e}")?,
     }
     Ok(())
@@ -56,29 +59,30 @@ fn help(rt: &HostRuntime) -> anyhow::Result<()> {
 // One word: a file, or an option that takes none.
 fn run_one(rt: &HostRuntime, word: &str) -> anyhow::Result<()> {
     match word {
-        "--frames" => answer_frames(rt),
+        "--frames" => answer_frames(rt, Extent::Sections),
+        "--all-frames" => answer_frames(rt, Extent::Whole),
         "--help" => help(rt),
-        _ if word.starts_with("--") => usage(rt),
-        _ => one(rt, word, Ask::All, ""),
+        _ => one(rt, word, Ask::Sections, ""),
     }
 }
 
 // Two words: two halves, or an option and its file.
 fn run_two(rt: &HostRuntime, first: &str, second: &str) -> anyhow::Result<()> {
     match first {
+        "--all" => one(rt, second, Ask::All, ""),
         "--symbols" => one(rt, second, Ask::Symbols, ""),
         "--map" => one(rt, second, Ask::Map, ""),
-        _ if first.starts_with("--") => usage(rt),
-        _ => two(rt, first, second),
+        _ => two(rt, first, second, Ask::Sections),
     }
 }
 
-// Three words: a search, and nothing else.
-fn run_three(rt: &HostRuntime, first: &str, name: &str, file: &str) -> anyhow::Result<()> {
-    if first == "--find" {
-        return one(rt, file, Ask::Find, name);
+// Three words: a search, or two halves of which all is asked.
+fn run_three(rt: &HostRuntime, first: &str, second: &str, third: &str) -> anyhow::Result<()> {
+    match first {
+        "--find" => one(rt, third, Ask::Find, second),
+        "--all" => two(rt, second, third, Ask::All),
+        _ => usage(rt),
     }
-    usage(rt)
 }
 
 fn main(rt: HostRuntime) -> anyhow::Result<()> {

@@ -1,11 +1,10 @@
 -- A segment beyond 4 GiB is listed as its only layout. Assumes nothing.
-use Rattle.std.proofs.Common.{◌≡◌, ℕ, ◌+◌, ◌-◌, ◌*◌, ◌%◌, ◌^◌, ◌<◌, ◌≤◌, min, Bool, true, false, cond, ◌&&◌, ◌||◌, eqb, ltb, leb, ◌⊎◌, List as Row, [], ◌∷◌, ◌++◌, length, take, drop, set, Some, None, Ok, Err, Option, Result, sym, refl, ap, ◌∙◌, subst, inl, inr, mod-eq_of_lt, arith, length-set, length-take}
+use Rattle.std.proofs.Common.{◌≡◌, ℕ, ◌+◌, ◌-◌, ◌*◌, ◌%◌, ◌^◌, ◌<◌, ◌≤◌, min, Bool, true, false, cond, eqb, ltb, leb, List as Row, ◌++◌, length, drop, set, Some, None, Ok, Err, Result, sym, refl, ap, ◌∙◌, subst, inl, inr, mod-eq_of_lt, arith, length-set, length-take}
 use Rattle.std.proofs.lemmas.List.{drop_at, drop_all, append-nil, get_or-set_same}
 use Rattle.std.proofs.lemmas.Option.{slice_get-get_or}
-use Rattle.std.proofs.lemmas.Bool.{cases_Bool, cases_lt, cond-true, cond-false, or_from, eq-eqb, ne_eqb, lt-ltb, le-ltb, lt-leb, leb-false, and_parts, leb-true, ltb-false, eqb-false}
-use Rattle.std.proofs.lemmas.Bool.Decides.{nat_tests}
+use Rattle.std.proofs.lemmas.Bool.{cases_lt, cond-true, cond-false, or_from, eq-eqb, ne_eqb, lt-ltb, le-ltb, lt-leb, leb-false, and_parts, leb-true, ltb-false}
 use Rattle.source.specs.declared.refusal.Refusal.{Refusal}
-use Rattle.list.specs.Contents.{Contents, free, got, records, added, pushed}
+use Rattle.list.specs.Contents.{Contents, free, got, records, added}
 use Rattle.fields.specs.declared.load_command.LoadCommand.{LoadCommand}
 use Rattle.fields.specs.declared.segment.Segment.{Segment as SegmentFields}
 use Rattle.fields.specs.Records.{load_command, segment_size, section_size}
@@ -13,7 +12,7 @@ use Rattle.sections.specs.declared.offset.SectionOffsets.{SectionOffsets}
 use Rattle.sections.specs.declared.record.SectionRecord.{SectionRecord}
 use Rattle.sections.specs.declared.record.SectionTable.{SectionTable}
 use Rattle.sections.specs.declared.record.SegmentRecord.{SegmentRecord}
-use Rattle.sections.specs.Layouts.{sections_from, backed_offsets, Layout, SegmentLayout}
+use Rattle.sections.specs.Layouts.{backed_offsets, Layout}
 use Rattle.sections.specs.Listings.{checked, filled}
 use Rattle.sections.specs.Offsets.{begun}
 use Rattle.sections.proofs.Layouts.{starts_from, rows_from, Far, sound, complete, unwrapped_before, filled-rows, rows_starts}
@@ -22,9 +21,9 @@ use Rattle.reader.specs.declared.state.Next.TheVariants.{Nothing, Damage, Comman
 use Rattle.reader.specs.declared.state.SegmentPlan.{SegmentPlan}
 use Rattle.reader.specs.declared.state.State.{State}
 use Rattle.reader.specs.declared.state.StepAnswer.TheVariants.{Segment}
-use Rattle.reader.specs.Commands.{rest, stands, next_of, plan_of, deed_of, plan_by, list_by, table_of, segment_command}
+use Rattle.reader.specs.Commands.{rest, stands, next_of, plan_of, deed_of, plan_by, list_by, table_of}
 use Rattle.reader.specs.Layouts.{next_segment, own_sections, IsLayout, ComesBeyond, ListedUnwrapped, listed_starts, ListedAsItsOnlyLayout, NextSegmentIsListedAsItsOnlyLayout}
-use Rattle.reader.specs.Walks.{Step, next_number, lacks_room, segment_record, list_answer, listed_segments, listed_sections, moved_if, moved, done_by, taken_of, stepped_by, step_of}
+use Rattle.reader.specs.Walks.{next_number, lacks_room, segment_record, done_by, stepped_by, step_of}
 
 skip : (c : LoadCommand) (b : Bool) (n m : Next) → (n ≡ Command c → ⊥) → cond b n m ≡ Command c → (b ≡ false) × (m ≡ Command c)
 skip c true n m never e = absurd (never e)

@@ -6,7 +6,7 @@ use Rattle.std.specs.List.{slice_get}
 use Rattle.source.specs.declared.refusal.Reason.TheVariants.{ListFull}
 use Rattle.source.specs.declared.refusal.Refusal.{Refusal}
 use Rattle.source.specs.Refusals.{refusal}
-use Rattle.list.specs.Contents.{Contents, records, free, has_room, added, pushed, push_answer, got}
+use Rattle.list.specs.Contents.{Contents, free, has_room, added, pushed, push_answer, got}
 use Rattle.replay.specs.Alike.{Alike}
 
 -- two choices by the same test

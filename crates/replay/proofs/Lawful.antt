@@ -1,5 +1,5 @@
 -- Every call keeps the sections and the object map right. Assumes nothing.
-use Rattle.std.proofs.Common.{◌≡◌, ℕ, ◌+◌, Bool, true, false, cond, ltb, leb, List as Row, [], ◌∷◌, length, take, Some, None, Ok, Err, Option, Result, sym, refl, ap, ◌∙◌, subst, ⊎_elim, arith}
+use Rattle.std.proofs.Common.{◌≡◌, ℕ, ◌+◌, Bool, true, false, ltb, leb, List as Row, [], ◌∷◌, length, take, Some, None, Ok, Err, Option, Result, sym, refl, ap, ◌∙◌, subst, ⊎_elim, arith}
 use Rattle.std.proofs.lemmas.Bool.{cases_Bool, cond_both, cond-true, cond-false}
 use Rattle.source.specs.declared.refusal.Reason.TheVariants.{ListFull}
 use Rattle.source.specs.declared.refusal.Refusal.{Refusal}
@@ -19,12 +19,11 @@ use Rattle.stabs.specs.declared.stab.Stab.{Stab}
 use Rattle.stabs.specs.Cursors.{begun, told, left}
 use Rattle.symbols.specs.declared.symbol.Symbol.{Symbol as SymbolValue}
 use Rattle.reader.specs.declared.state.MapAnswer.{MapAnswer}
-use Rattle.reader.specs.declared.state.MapAnswer.TheVariants.{Passed, End}
 use Rattle.reader.specs.declared.state.MapState.{MapState}
 use Rattle.reader.specs.declared.state.State.{State}
 use Rattle.reader.specs.declared.state.StepAnswer.{StepAnswer}
 use Rattle.reader.specs.declared.table.TableSymbol.{TableSymbol}
-use Rattle.reader.specs.Maps.{file_of, map_begun, stab_for, map_step_of, map_by, MapStep as Outcome, add_answer, add_file, add_entry, room_for, passed_if}
+use Rattle.reader.specs.Maps.{file_of, map_begun, stab_for, map_step_of, map_by, add_answer, add_file, add_entry, passed_if}
 use Rattle.reader.specs.Readings.{section_of, find_in}
 use Rattle.reader.specs.Tables.{symbol_at, symbol_answer, name_answer, symbol_in as symbol_of_table, symbol_place, in_table}
 use Rattle.reader.specs.Walks.{opened, step_of}
@@ -32,7 +31,7 @@ use Rattle.replay.specs.declared.calls.Answer.{Answer}
 use Rattle.replay.specs.declared.calls.Answer.TheVariants.{Found, Skipped}
 use Rattle.replay.specs.declared.calls.Call.{Call}
 use Rattle.replay.specs.declared.calls.Call.TheVariants.{Step, Finish, Section, Find, Symbol, Name, MapStep}
-use Rattle.replay.specs.Law.{command_in, symbol_in, symbol_passed, total, begun_at, Empty, stab_in, SectionsOfRun, MapOfRun, AfterEveryCall}
+use Rattle.replay.specs.Law.{command_in, symbol_in, total, begun_at, Empty, stab_in, SectionsOfRun, MapOfRun, AfterEveryCall}
 use Rattle.replay.specs.MapKept.{MapKept}
 use Rattle.replay.specs.Maps.{MapIsRight}
 use Rattle.replay.specs.Runs.{Lists, Run, stepped_told, listed_told, known_told, named_told, mapped_told, finish_told, answer_in, next_in, answer_of, next_of, answers_of, final_of}

@@ -1,10 +1,10 @@
 -- Runs on sources that mean the same bytes answer alike. Assumes nothing.
-use Rattle.std.proofs.Common.{◌≡◌, ℕ, ◌-◌, Bool, true, false, cond, List as Row, [], ◌∷◌, length, take, Some, None, Ok, Err, Option, Result, sym, refl, ap, ◌∙◌, subst}
+use Rattle.std.proofs.Common.{◌≡◌, ℕ, ◌-◌, Bool, true, false, cond, List as Row, [], ◌∷◌, take, Some, None, Ok, Err, Option, Result, refl, ap, ◌∙◌, subst}
 use Rattle.source.specs.declared.refusal.Reason.TheVariants.{ListFull}
 use Rattle.source.specs.declared.refusal.Refusal.{Refusal}
 use Rattle.source.specs.Refusals.{refusal}
 use Rattle.source.specs.Bytes.{run}
-use Rattle.list.specs.Contents.{Contents, records}
+use Rattle.list.specs.Contents.{Contents}
 use Rattle.fields.specs.declared.load_command.SymtabCommand.{SymtabCommand}
 use Rattle.fields.specs.declared.symbol.Nlist.{Nlist}
 use Rattle.sections.specs.declared.record.SectionRecord.{SectionRecord}
@@ -13,8 +13,6 @@ use Rattle.stabs.specs.declared.cursor.Addition.TheVariants.{Nothing, File, Entr
 use Rattle.stabs.specs.declared.map.MapEntry.{MapEntry}
 use Rattle.stabs.specs.declared.map.MapFile.{MapFile}
 use Rattle.stabs.specs.Cursors.{told, left}
-use Rattle.symbols.specs.declared.symbol.Symbol.{Symbol as SymbolValue}
-use Rattle.symbols.specs.declared.symbol.SymbolKind.{SymbolKind}
 use Rattle.symbols.specs.declared.symbol.SymbolSection.{SymbolSection}
 use Rattle.symbols.specs.declared.symbol.SymbolSection.TheVariants.{Unknown, Undefined, Absolute, Common, Section as InSection}
 use Rattle.symbols.specs.Symbols.{symbol_of, record_for, kind_by, is_stab, address_of, section_for, scope_of, is_weak}
@@ -22,15 +20,14 @@ use Rattle.reader.specs.declared.state.MapAnswer.TheVariants.{Passed}
 use Rattle.reader.specs.declared.state.MapState.{MapState}
 use Rattle.reader.specs.declared.state.State.{State}
 use Rattle.reader.specs.declared.table.TableSymbol.{TableSymbol}
-use Rattle.reader.specs.Maps.{map_begun, file_of, stab_for, MapStep as Outcome, map_by, map_step_of, add_answer, add_file, add_entry, room_for, passed_if}
-use Rattle.reader.specs.Tables.{symbol_at, symbol_by, symbol_answer}
-use Rattle.reader.specs.Walks.{opened, step_of}
-use Rattle.replay.specs.declared.calls.Answer.{Answer}
+use Rattle.reader.specs.Maps.{map_begun, file_of, stab_for, MapStep as Outcome, map_by, add_answer, add_file, add_entry, room_for, passed_if}
+use Rattle.reader.specs.Tables.{symbol_at, symbol_by}
+use Rattle.reader.specs.Walks.{opened}
 use Rattle.replay.specs.declared.calls.Answer.TheVariants.{Found}
 use Rattle.replay.specs.declared.calls.Call.{Call}
 use Rattle.replay.specs.declared.calls.Call.TheVariants.{Step, Finish, Section, Find, Symbol, Name, MapStep}
 use Rattle.replay.specs.Alike.{Alike}
-use Rattle.replay.specs.Law.{Empty, SameCapacities, SameRecords, RunsAgree, begun_at, lists_by, answers_by, lists_after, answers_after}
+use Rattle.replay.specs.Law.{Empty, SameCapacities, SameRecords, RunsAgree, begun_at, lists_by, answers_by}
 use Rattle.replay.specs.Runs.{Lists, Run, stepped_told, listed_told, known_told, mapped_told, answer_in, next_in, answer_of, next_of, answers_of, final_of}
 use Rattle.replay.proofs.Alike.{alike_empty, alike_room, alike_got, alike_pushed}
 use Rattle.replay.proofs.AlikeCalls.{step_alike, section_alike, find_alike}

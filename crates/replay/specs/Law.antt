@@ -2,10 +2,9 @@
 -- its source means, and text what its queries are runs of. Assumes nothing.
 use Rattle.std.specs.Prelude.{◌≡◌, ℕ, ◌+◌, Bool, false, List as Row, [], ◌∷◌, length, take, Some, None, Ok, Err, Option, Result}
 use Rattle.source.specs.declared.refusal.Refusal.{Refusal}
-use Rattle.list.specs.Contents.{Contents, records}
+use Rattle.list.specs.Contents.{records}
 use Rattle.fields.specs.declared.endian.Endianness.{Endianness}
 use Rattle.fields.specs.declared.load_command.SymtabCommand.{SymtabCommand}
-use Rattle.fields.specs.declared.symbol.Nlist.{Nlist}
 use Rattle.fields.specs.Records.{nlist}
 use Rattle.stabs.specs.declared.stab.Stab.{Stab}
 use Rattle.stabs.specs.declared.stab.Stab.TheVariants.{Other}

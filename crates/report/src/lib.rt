@@ -1,6 +1,8 @@
 // What a person is told of a library. Functions here gather the facts of a line, each proved
 // equal to what the file says, and the lines know how to print themselves. Below stand the
 // crates that read; above, the programs, which only choose what to print.
+#![tactic(auto)]
+
 pub mod canonical;
 pub mod cpu;
 pub mod map;

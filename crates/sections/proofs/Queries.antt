@@ -1,6 +1,5 @@
 -- A query that begins with a text, and the name that it then means. Assumes nothing.
-use Rattle.std.proofs.Common.{◌≡◌, ℕ, ◌+◌, ◌-◌, ◌<◌, ◌≤◌, Bool, true, false, ◌⊎◌, List, ◌++◌, length, get_or, take, drop, codes, Decides, sym, refl, ap, ◌∙◌, inl, inr, arith, length-drop, take_all}
-use Rattle.std.specs.Str.{bytes_eq}
+use Rattle.std.proofs.Common.{◌≡◌, ℕ, ◌-◌, ◌<◌, ◌≤◌, Bool, true, false, ◌⊎◌, List, ◌++◌, length, get_or, take, drop, codes, Decides, sym, refl, ap, ◌∙◌, inl, inr, arith, length-drop, take_all}
 use Rattle.std.proofs.lemmas.Slice.Eq.{bytes_eq-Decides}
 use Rattle.std.proofs.lemmas.List.Prefix.{front_rest, front_from_reads}
 use Rattle.std.proofs.lemmas.List.{take-append-drop, take_at, drop_at}

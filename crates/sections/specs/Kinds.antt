@@ -1,5 +1,5 @@
 -- The kind of a section, as its type, flags and segment say. Assumes nothing.
-use Rattle.std.specs.Prelude.{ℕ, Bool, true, false, cond, not, ◌||◌, List, [], ◌∷◌, codes, ◌==◌, bit_and, nat_lt}
+use Rattle.std.specs.Prelude.{ℕ, Bool, false, cond, not, ◌||◌, List, [], ◌∷◌, codes, ◌==◌, bit_and, nat_lt}
 use Rattle.std.specs.Str.{bytes_eq}
 use Rattle.sections.specs.declared.kind.Class.{Class}
 use Rattle.sections.specs.declared.kind.Class.TheVariants.{Is, ByFlags}

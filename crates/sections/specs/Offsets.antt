@@ -1,5 +1,5 @@
 -- Where the bytes of a segment's sections begin, section by section. Assumes nothing.
-use Rattle.std.specs.Prelude.{ℕ, ◌+◌, ◌*◌, ◌/◌, ◌%◌, ◌^◌, Bool, true, false, cond, not, ◌&&◌, ◌||◌, List, [], ◌∷◌, Some, None, Option, nat_le, nat_lt}
+use Rattle.std.specs.Prelude.{ℕ, ◌+◌, ◌*◌, ◌/◌, ◌%◌, ◌^◌, Bool, cond, not, ◌&&◌, ◌||◌, [], ◌∷◌, Some, None, Option, nat_le, nat_lt}
 use Rattle.fields.specs.declared.section.Section.{Section}
 use Rattle.sections.specs.declared.offset.SectionOffsets.{SectionOffsets}
 use Rattle.sections.specs.Kinds.{one_of, type_of}

@@ -1,7 +1,7 @@
 -- The table of worked examples. A row of offsets is a segment's fileoff and filesize, its sections by stored
 -- offset and size, and what comes: the starts and whether a true sum reached 2^64, or none where a section
 -- ends past the segment.
-use Rattle.std.specs.Prelude.{◌≡◌, ℕ, ◌+◌, ◌-◌, ◌^◌, Bool, true, false, ◌&&◌, List, [], ◌∷◌, Some, None, Option}
+use Rattle.std.specs.Prelude.{◌≡◌, ℕ, ◌-◌, ◌^◌, Bool, true, false, ◌&&◌, List, [], ◌∷◌, Some, None, Option}
 use Rattle.std.specs.Str.{bytes_eq}
 use Rattle.fields.specs.declared.section.Section.{Section}
 use Rattle.sections.specs.declared.offset.SectionOffsets.{SectionOffsets}

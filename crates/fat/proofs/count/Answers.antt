@@ -1,4 +1,4 @@
-use Rattle.std.proofs.Common.{◌≡◌, ◌<◌, ◌≤◌, length, sym, ◌∙◌, arith, rules}
+use Rattle.std.proofs.Common.{◌≡◌, ◌<◌, ◌≤◌, length, rules}
 use Rattle.fields.specs.Records.{fat_header, fat_magic}
 use Rattle.fat.specs.Members.{end_of_table, no_header, other_magic, no_table}
 use Rattle.fat.proofs.count.Goals as goal

@@ -1,4 +1,4 @@
-use Rattle.std.proofs.Common.{◌≡◌, ◌+◌, ◌-◌, ◌*◌, ◌<◌, length, get_or, drop, sym, refl, ap, ◌∙◌, arith, lit<, rules}
+use Rattle.std.proofs.Common.{◌≡◌, ◌<◌, length, get_or, sym, refl, ◌∙◌, arith, lit<, rules}
 use Rattle.fields.specs.Numbers.{least_first}
 use Rattle.fields.proofs.Numbers.{from_greatest, little_none, little_more, bound_more, room_for_one, length_least_first, least_first_at}
 use Rattle.fields.proofs.number.number_of.Goals as goal

@@ -3,7 +3,7 @@ use Rattle.std.proofs.lemmas.List.{drop_all}
 use Rattle.list.specs.Contents.{contents_of}
 use Rattle.replay.specs.declared.calls.Call.TheVariants.{Step}
 use Rattle.replay.specs.Runs.{answer_of, next_of, final_of, answers_of, lists_of, push_all}
-use Rattle.replay.specs.Stages.{source_of, run_at, SameSlices}
+use Rattle.replay.specs.Stages.{source_of, run_at}
 use Rattle.replay.proofs.Turns.{final_turn, answers_turn}
 use Rattle.replay.proofs.driver.go_on.Goals as goal
 

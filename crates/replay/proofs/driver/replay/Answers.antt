@@ -1,6 +1,5 @@
-use Rattle.std.proofs.Common.{◌≡◌, Ok, sym, refl, ap, ◌∙◌}
+use Rattle.std.proofs.Common.{◌≡◌, ap, ◌∙◌}
 use Rattle.list.specs.Contents.{contents_of}
-use Rattle.reader.specs.Walks.{opened}
 use Rattle.replay.specs.Law.{begun_at, lists_by, answers_by}
 use Rattle.replay.specs.Runs.{final_of, answers_of, lists_of, push_all}
 use Rattle.replay.specs.Stages.{run_at}

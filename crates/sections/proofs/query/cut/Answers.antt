@@ -1,4 +1,4 @@
-use Rattle.std.proofs.Common.{sym, arith, take_all, rules}
+use Rattle.std.proofs.Common.{sym, arith, take_all}
 use Rattle.sections.proofs.query.cut.Goals as goal
 
 pub returns-else-s-n : goal.returns-else-s-n

@@ -1,5 +1,4 @@
 use Rattle.std.proofs.Common.{◌≡◌, ℕ, ◌-◌, ◌<◌, ◌≤◌, length, get_or, take, drop, codes, rules}
-use Rattle.std.proofs.lemmas.Slice.Eq.{HasBytesAt}
 use Rattle.sections.proofs.Queries.{begun, decided}
 use Rattle.sections.proofs.query.dotted.Goals as goal
 

@@ -1,4 +1,4 @@
-use Rattle.std.proofs.Common.{◌+◌, ◌-◌, ◌<◌, Some, None, sym, arith}
+use Rattle.std.proofs.Common.{◌+◌, ◌<◌, Some, None, sym, arith}
 use Rattle.stabs.proofs.Searches.{split_empty, split_not, split_at, room}
 use Rattle.stabs.proofs.split.split_object_name.Goals as goal
 

@@ -1,4 +1,4 @@
-use Rattle.std.proofs.Common.{◌≡◌, ◌+◌, ◌-◌, ◌<◌, length, get_or, sym, ap, ◌∙◌, arith, length-set}
+use Rattle.std.proofs.Common.{◌≡◌, ◌+◌, ◌-◌, sym, ◌∙◌, arith, length-set}
 use Rattle.source.proofs.Places.{byte_or_zero}
 use Rattle.fields.proofs.Names.{name_past, name_ends, name_more}
 use Rattle.fields.proofs.name.Name.read.Goals as goal

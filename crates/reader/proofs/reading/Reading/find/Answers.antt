@@ -1,4 +1,4 @@
-use Rattle.std.proofs.Common.{◌≡◌, ◌<◌, sym, ap, ◌∙◌, arith}
+use Rattle.std.proofs.Common.{◌<◌, sym, ap, ◌∙◌, arith}
 use Rattle.list.specs.Contents.{contents_of, records}
 use Rattle.sections.specs.Queries.{matching}
 use Rattle.reader.proofs.Found.{got_some, got_none, all_got, found_here, found_on, found_past}

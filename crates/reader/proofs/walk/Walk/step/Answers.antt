@@ -1,6 +1,6 @@
-use Rattle.std.proofs.Common.{◌≡◌, sym, ap, ◌∙◌}
+use Rattle.std.proofs.Common.{sym, ap, ◌∙◌}
 use Rattle.list.specs.Contents.{contents_of}
-use Rattle.reader.specs.Walks.{stepped_by, step_of, taken_of}
+use Rattle.reader.specs.Walks.{stepped_by}
 use Rattle.reader.proofs.Layouts.{next_segment_is_listed_as_its_only_layout}
 use Rattle.reader.proofs.walk.Walk.step.Goals as goal
 
