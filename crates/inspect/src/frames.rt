@@ -126,7 +126,7 @@ fn put_entries(heap: Global, out: &mut String, entries: &List<MapEntry>) -> anyh
             lines.push(format!(in heap; "{line}\n")?)?;
         }
     }
-    lines.sort();
+    lines.sort()?;
     for line in &lines {
         out.push_str(line.as_str())?;
     }

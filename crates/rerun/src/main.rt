@@ -44,7 +44,7 @@ fn replay_file(rt: &HostRuntime, script: &str, path: &str) -> anyhow::Result<()>
     match FileKind::of(&s) {
         FileKind::MachO32(_) => replayed(rt, &s, Bits32, &script),
         FileKind::MachO64(_) => replayed(rt, &s, Bits64, &script),
-        _ => complain(rt, path, "no thin Mach-O file".into()),
+        _ => complain(rt, path, anyhow!("no thin Mach-O file")),
     }
 }
 
@@ -54,12 +54,12 @@ fn same_files(rt: &HostRuntime, first: &str, second: &str, path: &str) -> anyhow
     let bytes = read_file(rt, path)?;
     let whole = Plain(&bytes);
     let Ok(halves) = Join::new(Plain(&front), Plain(&back)) else {
-        return complain(rt, first, "the halves are too long".into());
+        return complain(rt, first, anyhow!("the halves are too long"));
     };
     match FileKind::of(&whole) {
         FileKind::MachO32(_) => alike(rt, &halves, &whole, Bits32),
         FileKind::MachO64(_) => alike(rt, &halves, &whole, Bits64),
-        _ => complain(rt, path, "no thin Mach-O file".into()),
+        _ => complain(rt, path, anyhow!("no thin Mach-O file")),
     }
 }
 
