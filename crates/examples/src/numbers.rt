@@ -28,7 +28,10 @@ fn names_end_before_a_zero_or_after_sixteen_bytes_or_with_the_source(rt: HostRun
     let s = Plain(b"__text\0\0garbage!__a_longer_name__abc");
     assert_eq!(rt; Name::read(&s, 0).as_bytes(), b"__text".as_slice());
     assert_eq!(rt; Name::read(&s, 6).as_bytes(), b"".as_slice());
-    assert_eq!(rt; Name::read(&s, 16).as_bytes(), b"__a_longer_name_".as_slice());
+    assert_eq!(rt;
+        Name::read(&s, 16).as_bytes(),
+        b"__a_longer_name_".as_slice()
+    );
     assert_eq!(rt; Name::read(&s, 33).as_bytes(), b"abc".as_slice());
     assert_eq!(rt; Name::read(&s, 36).as_bytes(), b"".as_slice());
     assert_eq!(rt; Name::read(&s, u64::MAX).as_bytes(), b"".as_slice());

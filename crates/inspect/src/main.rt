@@ -1,4 +1,6 @@
 // Prints what a library file holds.
+#![tactic(auto)]
+
 mod file;
 mod frames;
 mod library;

@@ -1,3 +1,5 @@
+#![tactic(auto)]
+
 // Examples that are run: symbols, their names and the object map of small libraries, with what the
 // rules say of each. A crate of its own, so that the crates under test are proved once.
 #[cfg(test)]

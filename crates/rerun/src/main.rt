@@ -1,4 +1,6 @@
 // Makes calls on a library file, and says what they answer.
+#![tactic(auto)]
+
 mod alike;
 mod file;
 mod line;
