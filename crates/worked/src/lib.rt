@@ -1,7 +1,7 @@
-#![tactic(auto)]
-
 // Worked examples of the rules, as one table about the definitions that the contracts cite. The
 // table is shown by one statement, which the prover computes.
+#![tactic(auto)]
+
 ghost use Rattle.std.specs.Prelude.{◌≡◌};
 ghost use Rattle.worked.specs.Examples.{WorkedExamplesHold, every};
 ghost use Rattle.worked.specs.Tables.{AllExamplesHold, example_holds, examples};
