@@ -3,8 +3,8 @@
 #![tactic(auto)]
 
 #[cfg(test)]
+mod answers;
+#[cfg(test)]
 mod library;
 #[cfg(test)]
 mod maps;
-#[cfg(test)]
-mod symbols;
