@@ -14,6 +14,7 @@ use listing::{Ask, list};
 use source::join::Join;
 use source::plain::Plain;
 use std::env;
+use std::process::ExitCode;
 
 const USAGE: &str =
     "usage: inspect FILE, or inspect FIRST SECOND for a file in two halves, or inspect --find NAME FILE, or inspect --frames; inspect --help has the rest";
@@ -87,13 +88,23 @@ fn run_three(rt: &HostRuntime, first: &str, second: &str, third: &str) -> anyhow
     }
 }
 
-fn main(rt: HostRuntime) -> anyhow::Result<()> {
-    let mut args = env::args(&rt)?;
+// What the words of the command line ask for.
+fn run(rt: &HostRuntime) -> anyhow::Result<()> {
+    let mut args = env::args(rt)?;
     let _program = args.next();
     match (args.next(), args.next(), args.next(), args.next()) {
-        (Some(a), None, None, None) => run_one(&rt, a.as_str()),
-        (Some(a), Some(b), None, None) => run_two(&rt, a.as_str(), b.as_str()),
-        (Some(a), Some(b), Some(c), None) => run_three(&rt, a.as_str(), b.as_str(), c.as_str()),
-        _ => usage(&rt),
+        (Some(a), None, None, None) => run_one(rt, a.as_str()),
+        (Some(a), Some(b), None, None) => run_two(rt, a.as_str(), b.as_str()),
+        (Some(a), Some(b), Some(c), None) => run_three(rt, a.as_str(), b.as_str(), c.as_str()),
+        _ => usage(rt),
+    }
+}
+
+// What went wrong was said in one line where it was seen; the status tells of it, and of a write that
+// failed.
+fn main(rt: HostRuntime) -> ExitCode {
+    match run(&rt) {
+        Ok(()) => ExitCode::SUCCESS,
+        Err(_) => ExitCode::FAILURE,
     }
 }

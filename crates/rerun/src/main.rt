@@ -19,6 +19,7 @@ use replayed::replayed;
 use source::join::Join;
 use source::plain::Plain;
 use std::env;
+use std::process::ExitCode;
 
 const USAGE: &str = "usage: rerun --replay SCRIPT FILE | --same FIRST SECOND WHOLE | --help";
 
@@ -88,7 +89,7 @@ fn run_one(rt: &HostRuntime, option: &str) -> anyhow::Result<()> {
 }
 
 // What the words after the option are.
-fn run(
+fn run_option(
     rt: &HostRuntime,
     option: &str,
     a: Option<String>,
@@ -103,17 +104,27 @@ fn run(
     }
 }
 
-fn main(rt: HostRuntime) -> anyhow::Result<()> {
-    let mut args = env::args(&rt)?;
+// What the words of the command line ask for.
+fn run(rt: &HostRuntime) -> anyhow::Result<()> {
+    let mut args = env::args(rt)?;
     let _program = args.next();
     let Some(option) = args.next() else {
-        return usage(&rt);
+        return usage(rt);
     };
     let a = args.next();
     let b = args.next();
     let c = args.next();
     if args.next().is_some() {
-        return usage(&rt);
+        return usage(rt);
     }
-    run(&rt, option.as_str(), a, b, c)
+    run_option(rt, option.as_str(), a, b, c)
+}
+
+// What went wrong was said in one line where it was seen; the status tells of it, and of a write that
+// failed.
+fn main(rt: HostRuntime) -> ExitCode {
+    match run(&rt) {
+        Ok(()) => ExitCode::SUCCESS,
+        Err(_) => ExitCode::FAILURE,
+    }
 }
