@@ -132,15 +132,15 @@ pub record SameRecords (l m : Lists) : Type 0 where
   pub entries : records l.entries ≡ records m.entries
 
 -- open and the same calls answer alike, refusals too, and leave the same records after every call
-pub record RunsAgree (wide : Bool) (xs ys text : Row ℕ) (calls : Row Call) (before-left before_right : Lists) : Type 0 where
+pub record RunsAgree (wide : Bool) (xs ys text : Row ℕ) (calls : Row Call) (before_left before_right : Lists) : Type 0 where
   pub open_agrees : opened wide xs ≡ opened wide ys
-  pub answers_agree : (n : ℕ) → answers_after wide xs text (take n calls) before-left ≡ answers_after wide ys text (take n calls) before_right
-  pub records_agree : (n : ℕ) → SameRecords (lists_after wide xs (take n calls) before-left) (lists_after wide ys (take n calls) before_right)
+  pub answers_agree : (n : ℕ) → answers_after wide xs text (take n calls) before_left ≡ answers_after wide ys text (take n calls) before_right
+  pub records_agree : (n : ℕ) → SameRecords (lists_after wide xs (take n calls) before_left) (lists_after wide ys (take n calls) before_right)
 
 -- the law: the same calls on two sources, of bytes xs and ys. The section records, the layouts and the object map are
 -- right on both after every call; and if the two mean the same bytes, they answer alike.
-pub record LawOfAllRuns (wide : Bool) (xs ys text : Row ℕ) (calls : Row Call) (before-left before_right : Lists) : Type 0 where
-  pub sections : AfterEveryCall wide xs (SectionsOfRun wide xs) text before-left calls × AfterEveryCall wide ys (SectionsOfRun wide ys) text before_right calls
-  pub map : AfterEveryCall wide xs (MapOfRun wide xs) text before-left calls × AfterEveryCall wide ys (MapOfRun wide ys) text before_right calls
-  pub sources : xs ≡ ys → Empty before-left → Empty before_right → SameCapacities before-left before_right →
-      RunsAgree wide xs ys text calls before-left before_right
+pub record LawOfAllRuns (wide : Bool) (xs ys text : Row ℕ) (calls : Row Call) (before_left before_right : Lists) : Type 0 where
+  pub sections : AfterEveryCall wide xs (SectionsOfRun wide xs) text before_left calls × AfterEveryCall wide ys (SectionsOfRun wide ys) text before_right calls
+  pub map : AfterEveryCall wide xs (MapOfRun wide xs) text before_left calls × AfterEveryCall wide ys (MapOfRun wide ys) text before_right calls
+  pub sources : xs ≡ ys → Empty before_left → Empty before_right → SameCapacities before_left before_right →
+      RunsAgree wide xs ys text calls before_left before_right

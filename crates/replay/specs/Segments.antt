@@ -59,7 +59,7 @@ module _ (wide : Bool) (xs : List ℕ) (e : Endianness) where
     pub size : r.size ≡ (section_at q).size
 
   -- the records of sections from q on, with numbers from n on, in a segment at p that ends at stop. The offset of a
-  -- section is the stored one where the segment does not end beyond 4 GiB or the section is zero_filled. Any other
+  -- section is the stored one where the segment does not end beyond 4 GiB or the section is zero-filled. Any other
   -- section starts at the least number not below the end before it that has the stored low bits, and ends no later
   -- than the segment; both modulo 2^64. The last tells whether a true sum reached 2^64.
   pub data Sections (p stop : ℕ) (beyond : Bool) : ℕ → ℕ → ℕ → List SectionRecord → Bool → Type 0 where

@@ -4,7 +4,7 @@ use Rattle.fields.specs.declared.section.Section.{Section}
 use Rattle.sections.specs.declared.offset.SectionOffsets.{SectionOffsets}
 use Rattle.sections.specs.Kinds.{one_of, type_of}
 
--- zero_filled sections have no bytes in the file
+-- zero-filled sections have no bytes in the file
 abbrev pub file_backed : ℕ → Bool
 file_backed flags = not (one_of (0x01 ∷ 0x0c ∷ 0x12 ∷ []) (type_of flags))
 
