@@ -12,20 +12,20 @@ abbrev pub count_of : List ℕ → ℕ
 count_of xs = (fat_header xs).nfat_arch
 
 -- where the table of the members ends, which follows the header of 8 bytes
-abbrev pub end_of_table : Bool → List ℕ → ℕ
-end_of_table wide xs = 8 + count_of xs * fat_arch_size wide
+abbrev pub table_end : Bool → List ℕ → ℕ
+table_end wide xs = 8 + count_of xs * fat_arch_size wide
 
 -- a universal file: a header with the magic, and the whole table after it
 pub record Fat (wide : Bool) (xs : List ℕ) : Type 0 where
   pub header : 8 ≤ length xs
   pub magic : (fat_header xs).magic ≡ fat_magic wide
-  pub table : end_of_table wide xs ≤ length xs
+  pub table : table_end wide xs ≤ length xs
 
 -- why a file is none: the first of these that holds
 pub data NotFat (wide : Bool) (xs : List ℕ) : Refusal → Type 0 where
   no_header : length xs < 8 → NotFat wide xs (refusal ShortFatHeader 0)
   other_magic : 8 ≤ length xs → ((fat_header xs).magic ≢ fat_magic wide) → NotFat wide xs (refusal WrongFatMagic 0)
-  no_table : 8 ≤ length xs → (fat_header xs).magic ≡ fat_magic wide → length xs < end_of_table wide xs → NotFat wide xs (refusal ShortFatHeader 0)
+  no_table : 8 ≤ length xs → (fat_header xs).magic ≡ fat_magic wide → length xs < table_end wide xs → NotFat wide xs (refusal ShortFatHeader 0)
 
 -- member n has the record a
 pub record Arch (wide : Bool) (xs : List ℕ) (n : ℕ) (a : FatArch) : Type 0 where
