@@ -1,8 +1,9 @@
 // Universal files, whole and damaged.
+use crate::refusals::told;
 use fat::{arch, count, member};
 use fields::width::{Bits32, Bits64};
 use source::plain::Plain;
-use source::refusal::{Level, Refusal};
+use source::refusal::Level;
 use source::source::Source;
 use std::test::Fail;
 
@@ -15,68 +16,42 @@ const TWO: &[u8] = b"\xca\xfe\xba\xbe\0\0\0\x02\
 const WIDE: &[u8] = b"\xca\xfe\xba\xbf\0\0\0\x01\
     \x01\0\0\x07\0\0\0\x03\0\0\0\0\0\0\0\x28\0\0\0\0\0\0\0\0\0\0\0\0\0\0\0\0";
 
-fn refused(number: u8, level: Level, place: u64) -> Refusal {
-    Refusal {
-        number,
-        level,
-        place,
-    }
-}
-
 #[test]
 fn members_are_windows_of_the_file(rt: HostRuntime) -> Result<(), Fail> {
     let s = Plain(TWO);
     assert_eq!(rt; count::<Plain, Bits32>(&s)?, 2);
     assert_eq!(rt; arch::<Plain, Bits32>(&s, 1)?.cputype, 0x0100_000c);
-    match member::<&Plain, Bits32>(&s, 0) {
-        Ok(w) => {
-            assert_eq!(rt; w.len(), 4);
-            assert_eq!(rt; w.byte(0), Some(b'a'));
-            assert_eq!(rt; w.byte(3), Some(b'd'));
-        }
-        Err(e) => return Err(e.into()),
-    }
-    match member::<Plain, Bits64>(Plain(WIDE), 0) {
-        Ok(w) => {
-            assert_eq!(rt; w.len(), 0);
-            Ok(())
-        },
-        Err(e) => Err(e.into()),
-    }
+    let w = member::<&Plain, Bits32>(&s, 0)?;
+    assert_eq!(rt; w.len(), 4);
+    assert_eq!(rt; w.byte(0), Some(b'a'));
+    assert_eq!(rt; w.byte(3), Some(b'd'));
+    let w = member::<Plain, Bits64>(Plain(WIDE), 0)?;
+    assert_eq!(rt; w.len(), 0);
+    Ok(())
 }
 
 #[test]
 fn refusals_come_in_their_order(rt: HostRuntime) -> Result<(), Fail> {
     // the bytes, the member asked for at 32 bits, and the refusal
     let cases = [
-        (&TWO[0..7], 9, refused(11, Level::Record, 0)),
-        (
-            b"\xca\xfe\xba\xbf\0\0\0\x09",
-            9,
-            refused(12, Level::Record, 0),
-        ),
-        (&TWO[0..47], 9, refused(11, Level::Record, 0)),
-        (&TWO[0..48], 2, refused(13, Level::Reading, 2)),
-        (TWO, u64::MAX, refused(13, Level::Reading, u64::MAX)),
-        (&TWO[0..48], 0, refused(14, Level::Source, 0x30)),
-        (TWO, 1, refused(14, Level::Source, 0x30)),
-        (b"", 0, refused(11, Level::Record, 0)),
+        (&TWO[0..7], 9, (11, Level::Record, 0)),
+        (b"\xca\xfe\xba\xbf\0\0\0\x09", 9, (12, Level::Record, 0)),
+        (&TWO[0..47], 9, (11, Level::Record, 0)),
+        (&TWO[0..48], 2, (13, Level::Reading, 2)),
+        (TWO, u64::MAX, (13, Level::Reading, u64::MAX)),
+        (&TWO[0..48], 0, (14, Level::Source, 0x30)),
+        (TWO, 1, (14, Level::Source, 0x30)),
+        (b"", 0, (11, Level::Record, 0)),
         (
             b"\xca\xfe\xba\xbe\xff\xff\xff\xff",
             0,
-            refused(11, Level::Record, 0),
+            (11, Level::Record, 0),
         ),
-        (
-            b"\xca\xfe\xba\xbe\0\0\0\0",
-            0,
-            refused(13, Level::Reading, 0),
-        ),
+        (b"\xca\xfe\xba\xbe\0\0\0\0", 0, (13, Level::Reading, 0)),
     ];
     for (bytes, number, expected) in cases {
-        match member::<Plain, Bits32>(Plain(bytes), number) {
-            Ok(_) => return Err(Fail::new("a member where none is")),
-            Err(e) => assert_eq!(rt; e, expected),
-        }
+        let refusal = member::<Plain, Bits32>(Plain(bytes), number).err();
+        assert_eq!(rt; refusal.map(told), Some(expected));
     }
     Ok(())
 }

@@ -11,6 +11,8 @@ mod numbers;
 #[cfg(test)]
 mod records;
 #[cfg(test)]
+mod refusals;
+#[cfg(test)]
 mod sources;
 #[cfg(test)]
 mod walks;

@@ -1,6 +1,7 @@
 // Lists of two kinds of record, filled up and past.
+use crate::refusals::told;
 use list::list::List;
-use source::refusal::{Level, Refusal};
+use source::refusal::Level;
 
 #[test]
 fn a_full_list_refuses_and_keeps_every_slot(rt: HostRuntime) {
@@ -14,12 +15,8 @@ fn a_full_list_refuses_and_keeps_every_slot(rt: HostRuntime) {
         assert_eq!(rt; list.get(1), Some(8));
         assert_eq!(rt; list.get(2), None);
         assert_eq!(rt; list.push(6, 42), Ok(()));
-        let full = Refusal {
-            number: 7,
-            level: Level::Reading,
-            place: 43,
-        };
-        assert_eq!(rt; list.push(5, 43), Err(full));
+        let full = (7, Level::Reading, 43);
+        assert_eq!(rt; list.push(5, 43).map_err(told), Err(full));
         assert_eq!(rt; list.count(), 3);
         assert_eq!(rt; list.free(), 0);
     }

@@ -1,26 +1,28 @@
 // Numbers in both byte orders, and names of sixteen bytes.
 use fields::endian::Endianness;
 use fields::name::Name;
-use fields::number::{u16_at, u32_at, u64_at};
+use fields::number::Fields;
 use source::plain::Plain;
 
 #[test]
 fn numbers_are_read_exactly_when_enough_bytes_remain(rt: HostRuntime) {
     let s = Plain(b"\x01\x02\x03\x04\x05\x06\x07\x88\x99");
-    assert_eq!(rt; u16_at(&s, 0, Endianness::Little), Some(0x0201));
-    assert_eq!(rt; u16_at(&s, 7, Endianness::Big), Some(0x8899));
-    assert_eq!(rt; u16_at(&s, 8, Endianness::Big), None);
-    assert_eq!(rt; u32_at(&s, 1, Endianness::Little), Some(0x0504_0302));
-    assert_eq!(rt; u32_at(&s, 5, Endianness::Big), Some(0x0607_8899));
-    assert_eq!(rt; u32_at(&s, 6, Endianness::Big), None);
-    assert_eq!(rt;
-        u64_at(&s, 0, Endianness::Little),
-        Some(0x8807_0605_0403_0201)
-    );
-    assert_eq!(rt; u64_at(&s, 1, Endianness::Big), Some(0x0203_0405_0607_8899));
-    assert_eq!(rt; u64_at(&s, 2, Endianness::Big), None);
-    assert_eq!(rt; u32_at(&s, u64::MAX, Endianness::Big), None);
-    assert_eq!(rt; u16_at(&Plain(b""), 0, Endianness::Big), None);
+    let big = Fields::big_endian(&s);
+    let little = Fields {
+        source: &s,
+        endian: Endianness::Little,
+    };
+    assert_eq!(rt; little.u16_at(0), Some(0x0201));
+    assert_eq!(rt; big.u16_at(7), Some(0x8899));
+    assert_eq!(rt; big.u16_at(8), None);
+    assert_eq!(rt; little.u32_at(1), Some(0x0504_0302));
+    assert_eq!(rt; big.u32_at(5), Some(0x0607_8899));
+    assert_eq!(rt; big.u32_at(6), None);
+    assert_eq!(rt; little.u64_at(0), Some(0x8807_0605_0403_0201));
+    assert_eq!(rt; big.u64_at(1), Some(0x0203_0405_0607_8899));
+    assert_eq!(rt; big.u64_at(2), None);
+    assert_eq!(rt; big.u32_at(u64::MAX), None);
+    assert_eq!(rt; Fields::big_endian(&Plain(b"")).u16_at(0), None);
 }
 
 #[test]

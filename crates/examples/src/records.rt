@@ -4,6 +4,7 @@ use fields::fat::{FatArch, FatHeader};
 use fields::header::{MachHeader, endian_of};
 use fields::kind::FileKind;
 use fields::load_command::{LoadCommand, SymtabCommand};
+use fields::number::Fields;
 use fields::section::Section;
 use fields::segment::Segment;
 use fields::symbol::Nlist;
@@ -24,27 +25,28 @@ const PLACES: [u8; 96] = [
 // How many bytes of zeros each record needs.
 fn fits<W: Width>(total: u64) -> Result<[bool; 8], Fail> {
     let s = Padded::new(b"", total)?;
-    let e = Endianness::Little;
+    let f = Fields {
+        source: &s,
+        endian: Endianness::Little,
+    };
     Ok([
-        MachHeader::read::<Padded, W>(&s, e).is_some(),
-        LoadCommand::read(&s, 0, e).is_some(),
-        Segment::read::<Padded, W>(&s, 0, e).is_some(),
-        Section::read::<Padded, W>(&s, 0, e).is_some(),
-        SymtabCommand::read(&s, 0, e).is_some(),
-        Nlist::read::<Padded, W>(&s, 0, e).is_some(),
+        MachHeader::read::<Padded, W>(f).is_some(),
+        LoadCommand::read(f, 0).is_some(),
+        Segment::read::<Padded, W>(f, 0).is_some(),
+        Section::read::<Padded, W>(f, 0).is_some(),
+        SymtabCommand::read(f, 0).is_some(),
+        Nlist::read::<Padded, W>(f, 0).is_some(),
         FatHeader::read(&s).is_some(),
         FatArch::read::<Padded, W>(&s, 0).is_some(),
     ])
 }
 
 fn fit_exactly<W: Width>(rt: &impl Abort, sizes: [u64; 8]) -> Result<(), Fail> {
-    for i in 0..8 {
-        let size = sizes[i];
-        assert!(rt; size > 0);
-        let enough = fits::<W>(size)?;
-        assert!(rt; enough[i]);
-        let short = fits::<W>(size - 1)?;
-        assert!(rt; !short[i]);
+    for (i, size) in sizes.iter().enumerate() {
+        let enough = fits::<W>(*size)?;
+        assert_eq!(rt; enough.get(i), Some(&true));
+        let short = fits::<W>(size.saturating_sub(1))?;
+        assert_eq!(rt; short.get(i), Some(&false));
     }
     Ok(())
 }
@@ -58,23 +60,23 @@ fn records_are_read_exactly_when_they_are_whole(rt: HostRuntime) -> Result<(), F
 #[test]
 fn narrow_fields_stand_where_the_headers_put_them(rt: HostRuntime) -> Result<(), Fail> {
     let s = Plain(&PLACES);
-    let e = Endianness::Big;
-    let header = MachHeader::read::<Plain, Bits32>(&s, e).ok_or("header")?;
+    let f = Fields::big_endian(&s);
+    let header = MachHeader::read::<Plain, Bits32>(f).ok_or("header")?;
     assert_eq!(rt; header.filetype, 0x0c0d_0e0f);
     assert_eq!(rt; header.ncmds, 0x1011_1213);
     assert_eq!(rt; header.sizeofcmds, 0x1415_1617);
-    let segment = Segment::read::<Plain, Bits32>(&s, 0, e).ok_or("segment")?;
+    let segment = Segment::read::<Plain, Bits32>(f, 0).ok_or("segment")?;
     assert_eq!(rt; segment.fileoff, 0x2021_2223);
     assert_eq!(rt; segment.filesize, 0x2425_2627);
     assert_eq!(rt; segment.initprot, 0x2c2d_2e2f);
     assert_eq!(rt; segment.nsects, 0x3031_3233);
     assert_eq!(rt; segment.flags, 0x3435_3637);
-    let section = Section::read::<Plain, Bits32>(&s, 0, e).ok_or("section")?;
+    let section = Section::read::<Plain, Bits32>(f, 0).ok_or("section")?;
     assert_eq!(rt; section.addr, 0x2021_2223);
     assert_eq!(rt; section.size, 0x2425_2627);
     assert_eq!(rt; section.offset, 0x2829_2a2b);
     assert_eq!(rt; section.flags, 0x3839_3a3b);
-    let symbol = Nlist::read::<Plain, Bits32>(&s, 0, e).ok_or("symbol")?;
+    let symbol = Nlist::read::<Plain, Bits32>(f, 0).ok_or("symbol")?;
     assert_eq!(rt; symbol.n_value, 0x0809_0a0b);
     let arch = FatArch::read::<Plain, Bits32>(&s, 0).ok_or("arch")?;
     assert_eq!(rt; arch.offset, 0x0809_0a0b);
@@ -85,25 +87,25 @@ fn narrow_fields_stand_where_the_headers_put_them(rt: HostRuntime) -> Result<(),
 #[test]
 fn wide_fields_stand_where_the_headers_put_them(rt: HostRuntime) -> Result<(), Fail> {
     let s = Plain(&PLACES);
-    let e = Endianness::Big;
-    let segment = Segment::read::<Plain, Bits64>(&s, 0, e).ok_or("segment")?;
+    let f = Fields::big_endian(&s);
+    let segment = Segment::read::<Plain, Bits64>(f, 0).ok_or("segment")?;
     assert_eq!(rt; segment.fileoff, 0x2829_2a2b_2c2d_2e2f);
     assert_eq!(rt; segment.filesize, 0x3031_3233_3435_3637);
     assert_eq!(rt; segment.initprot, 0x3c3d_3e3f);
     assert_eq!(rt; segment.nsects, 0x4041_4243);
     assert_eq!(rt; segment.flags, 0x4445_4647);
-    let section = Section::read::<Plain, Bits64>(&s, 0, e).ok_or("section")?;
+    let section = Section::read::<Plain, Bits64>(f, 0).ok_or("section")?;
     assert_eq!(rt; section.addr, 0x2021_2223_2425_2627);
     assert_eq!(rt; section.size, 0x2829_2a2b_2c2d_2e2f);
     assert_eq!(rt; section.offset, 0x3031_3233);
     assert_eq!(rt; section.flags, 0x4041_4243);
-    let symbol = Nlist::read::<Plain, Bits64>(&s, 0, e).ok_or("symbol")?;
+    let symbol = Nlist::read::<Plain, Bits64>(f, 0).ok_or("symbol")?;
     assert_eq!(rt; symbol.n_strx, 0x0001_0203);
     assert_eq!(rt; symbol.n_type, 4);
     assert_eq!(rt; symbol.n_sect, 5);
     assert_eq!(rt; symbol.n_desc, 0x0607);
     assert_eq!(rt; symbol.n_value, 0x0809_0a0b_0c0d_0e0f);
-    let symtab = SymtabCommand::read(&s, 0, e).ok_or("symtab")?;
+    let symtab = SymtabCommand::read(f, 0).ok_or("symtab")?;
     assert_eq!(rt; symtab.symoff, 0x0809_0a0b);
     assert_eq!(rt; symtab.nsyms, 0x0c0d_0e0f);
     assert_eq!(rt; symtab.stroff, 0x1011_1213);

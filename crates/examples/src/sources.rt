@@ -1,20 +1,13 @@
 // The edges of each make of source.
+use crate::refusals::told;
 use source::join::Join;
 use source::padded::Padded;
 use source::part::PartSource;
 use source::plain::Plain;
-use source::refusal::{Level, Refusal};
+use source::refusal::Level;
 use source::source::Source;
 use source::window::Window;
 use std::test::Fail;
-
-fn at_source(number: u8, place: u64) -> Refusal {
-    Refusal {
-        number,
-        level: Level::Source,
-        place,
-    }
-}
 
 #[test]
 fn plain_bytes_end_at_their_length(rt: HostRuntime) {
@@ -31,54 +24,34 @@ fn plain_bytes_end_at_their_length(rt: HostRuntime) {
 
 #[test]
 fn padding_is_zeros_up_to_the_length(rt: HostRuntime) -> Result<(), Fail> {
-    match Padded::new(b"ab", 5) {
-        Ok(s) => {
-            assert_eq!(rt; s.len(), 5);
-            assert_eq!(rt; s.byte(1), Some(b'b'));
-            assert_eq!(rt; s.byte(2), Some(0));
-            assert_eq!(rt; s.byte(4), Some(0));
-            assert_eq!(rt; s.byte(5), None);
-        }
-        Err(_) => return Err(Fail::new("a length above the head")),
-    }
-    match Padded::new(b"ab", 2) {
-        Ok(s) => assert_eq!(rt; s.byte(2), None),
-        Err(_) => return Err(Fail::new("the head's own length")),
-    }
-    match Padded::new(b"ab", 1) {
-        Ok(_) => Err(Fail::new("a length under the head")),
-        Err(e) => {
-            assert_eq!(rt; e, at_source(15, 0));
-            Ok(())
-        },
-    }
+    let s = Padded::new(b"ab", 5)?;
+    assert_eq!(rt; s.len(), 5);
+    assert_eq!(rt; s.byte(1), Some(b'b'));
+    assert_eq!(rt; s.byte(2), Some(0));
+    assert_eq!(rt; s.byte(4), Some(0));
+    assert_eq!(rt; s.byte(5), None);
+    let all_head = Padded::new(b"ab", 2)?;
+    assert_eq!(rt; all_head.byte(2), None);
+    let under = Padded::new(b"ab", 1).err();
+    assert_eq!(rt; under.map(told), Some((15, Level::Source, 0)));
+    Ok(())
 }
 
 #[test]
 fn windows_pass_no_source(rt: HostRuntime) -> Result<(), Fail> {
     let four = Plain(b"abcd");
-    match Window::new(&four, 4, 0) {
-        Ok(w) => {
-            assert_eq!(rt; w.len(), 0);
-            assert_eq!(rt; w.byte(0), None);
-        }
-        Err(_) => return Err(Fail::new("an empty window at the end")),
-    }
-    match Window::new(&four, 2, 2) {
-        Ok(w) => {
-            assert_eq!(rt; w.len(), 2);
-            assert_eq!(rt; w.byte(1), Some(b'd'));
-            assert_eq!(rt; w.byte(2), None);
-        }
-        Err(_) => return Err(Fail::new("a window that ends at the end")),
-    }
-    // start, count, and the place of the refusal
+    let none = Window::new(&four, 4, 0)?;
+    assert_eq!(rt; none.len(), 0);
+    assert_eq!(rt; none.byte(0), None);
+    let last = Window::new(&four, 2, 2)?;
+    assert_eq!(rt; last.len(), 2);
+    assert_eq!(rt; last.byte(1), Some(b'd'));
+    assert_eq!(rt; last.byte(2), None);
+    // start and count; the start is the place of the refusal
     let past = [(3, 2), (5, 0), (0, 5), (1, u64::MAX), (u64::MAX, 1)];
     for (start, count) in past {
-        match Window::new(&four, start, count) {
-            Ok(_) => return Err(Fail::new("a window past its source")),
-            Err(e) => assert_eq!(rt; e, at_source(14, start)),
-        }
+        let refusal = Window::new(&four, start, count).err();
+        assert_eq!(rt; refusal.map(told), Some((14, Level::Source, start)));
     }
     Ok(())
 }
@@ -86,22 +59,14 @@ fn windows_pass_no_source(rt: HostRuntime) -> Result<(), Fail> {
 #[test]
 fn a_window_of_a_window_counts_from_the_inner_start(rt: HostRuntime) -> Result<(), Fail> {
     let six = Plain(b"abcdef");
-    let Ok(outer) = Window::new(&six, 1, 4) else {
-        return Err(Fail::new("outer"));
-    };
-    let Ok(inner) = Window::new(&outer, 1, 3) else {
-        return Err(Fail::new("inner"));
-    };
+    let outer = Window::new(&six, 1, 4)?;
+    let inner = Window::new(&outer, 1, 3)?;
     assert_eq!(rt; inner.byte(0), Some(b'c'));
     assert_eq!(rt; inner.byte(2), Some(b'e'));
     assert_eq!(rt; inner.byte(3), None);
-    match Window::new(&outer, 1, 4) {
-        Ok(_) => Err(Fail::new("past the outer window")),
-        Err(e) => {
-            assert_eq!(rt; e, at_source(14, 1));
-            Ok(())
-        },
-    }
+    let past = Window::new(&outer, 1, 4).err();
+    assert_eq!(rt; past.map(told), Some((14, Level::Source, 1)));
+    Ok(())
 }
 
 #[test]
@@ -111,9 +76,7 @@ fn parts_are_handed_out_exactly_when_there(rt: HostRuntime) -> Result<(), Fail> 
     assert_eq!(rt; six.part(6, 0), Some(&b""[..]));
     assert_eq!(rt; six.part(7, 0), None);
     assert_eq!(rt; six.part(5, 2), None);
-    let Ok(w) = Window::new(&six, 1, 4) else {
-        return Err(Fail::new("window"));
-    };
+    let w = Window::new(&six, 1, 4)?;
     assert_eq!(rt; w.part(0, 4), Some(&b"bcde"[..]));
     assert_eq!(rt; w.part(4, 0), Some(&b""[..]));
     assert_eq!(rt; w.part(1, 4), None);
@@ -123,44 +86,26 @@ fn parts_are_handed_out_exactly_when_there(rt: HostRuntime) -> Result<(), Fail> 
 
 #[test]
 fn joins_have_at_most_all_lengths_of_64_bits(rt: HostRuntime) -> Result<(), Fail> {
-    let Ok(front) = Padded::new(b"ab", u64::MAX - 2) else {
-        return Err(Fail::new("front"));
-    };
-    match Join::new(front, Plain(b"yz")) {
-        Ok(j) => {
-            assert_eq!(rt; j.len(), u64::MAX);
-            assert_eq!(rt; j.byte(0), Some(b'a'));
-            assert_eq!(rt; j.byte(u64::MAX - 3), Some(0));
-            assert_eq!(rt; j.byte(u64::MAX - 2), Some(b'y'));
-            assert_eq!(rt; j.byte(u64::MAX - 1), Some(b'z'));
-            assert_eq!(rt; j.byte(u64::MAX), None);
-        }
-        Err(_) => return Err(Fail::new("2^64 - 1 bytes")),
-    }
-    match Join::new(front, Plain(b"xyz")) {
-        Ok(_) => Err(Fail::new("2^64 bytes")),
-        Err(e) => {
-            assert_eq!(rt; e, at_source(15, 0));
-            Ok(())
-        },
-    }
+    let front = Padded::new(b"ab", u64::MAX - 2)?;
+    let j = Join::new(front, Plain(b"yz"))?;
+    assert_eq!(rt; j.len(), u64::MAX);
+    assert_eq!(rt; j.byte(0), Some(b'a'));
+    assert_eq!(rt; j.byte(u64::MAX - 3), Some(0));
+    assert_eq!(rt; j.byte(u64::MAX - 2), Some(b'y'));
+    assert_eq!(rt; j.byte(u64::MAX - 1), Some(b'z'));
+    assert_eq!(rt; j.byte(u64::MAX), None);
+    let too_long = Join::new(front, Plain(b"xyz")).err();
+    assert_eq!(rt; too_long.map(told), Some((15, Level::Source, 0)));
+    Ok(())
 }
 
 #[test]
 fn a_join_of_windows_reads_across_the_seam(rt: HostRuntime) -> Result<(), Fail> {
     let six = Plain(b"abcdef");
-    let Ok(front) = Window::new(&six, 4, 2) else {
-        return Err(Fail::new("front"));
-    };
-    let Ok(back) = Window::new(&six, 0, 2) else {
-        return Err(Fail::new("back"));
-    };
-    let Ok(j) = Join::new(front, back) else {
-        return Err(Fail::new("join"));
-    };
-    let Ok(middle) = Window::new(&j, 1, 2) else {
-        return Err(Fail::new("middle"));
-    };
+    let front = Window::new(&six, 4, 2)?;
+    let back = Window::new(&six, 0, 2)?;
+    let j = Join::new(front, back)?;
+    let middle = Window::new(&j, 1, 2)?;
     assert_eq!(rt; middle.byte(0), Some(b'f'));
     assert_eq!(rt; middle.byte(1), Some(b'a'));
     assert_eq!(rt; middle.byte(2), None);

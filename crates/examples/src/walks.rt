@@ -1,32 +1,18 @@
 // Walks over small libraries that are made here, and over damaged ones.
+use crate::refusals::told;
 use fields::width::Bits64;
 use list::list::List;
+use reader::lists::Listing;
 use reader::state::StepAnswer;
 use reader::walk::open;
 use sections::kind::SectionKind;
 use sections::record::{SectionRecord, SegmentRecord};
 use source::padded::Padded;
 use source::plain::Plain;
-use source::refusal::{Level, Refusal};
+use source::refusal::Level;
 use source::source::Source;
 use std::process::Abort;
 use std::test::Fail;
-
-const NO_SEGMENT: SegmentRecord = SegmentRecord {
-    place: 0,
-    first: 0,
-    count: 0,
-    wrapped: false,
-};
-
-const NO_SECTION: SectionRecord = SectionRecord {
-    number: 0,
-    kind: SectionKind::Unknown,
-    place: 0,
-    addr: 0,
-    size: 0,
-    offset: 0,
-};
 
 // A header with one command of 232 bytes: a segment from 0 of 0x1_0000_0100 bytes with two sections,
 // stored at 0xffff_ff00 with 0x100 bytes and at 0x10 with 0x20 bytes.
@@ -44,61 +30,46 @@ const SYMTAB: &[u8] =
     b"\xcf\xfa\xed\xfe\0\0\0\0\0\0\0\0\x01\0\0\0\x01\0\0\0\x18\0\0\0\0\0\0\0\0\0\0\0\
     \x02\0\0\0\x18\0\0\0\x4f\0\0\0\0\0\0\0\0\0\0\0\0\0\0\0";
 
-fn refused(number: u8, level: Level, place: u64) -> Refusal {
-    Refusal {
-        number,
-        level,
-        place,
-    }
-}
-
 // What a source is refused with when it is opened and stepped to its end with so many slots.
-fn refusal_of<S: Source>(rt: &impl Abort, s: &S, slots: usize) -> Result<Refusal, Fail> {
-    let mut segment_slots = [NO_SEGMENT; 2];
-    let mut section_slots = [NO_SECTION; 2];
+fn refusal_of<S: Source>(rt: &impl Abort, s: &S, slots: usize) -> Result<(u8, Level, u64), Fail> {
+    let mut segments = [SegmentRecord::default(); 2];
+    let mut sections = [SectionRecord::default(); 2];
     assert!(rt; slots <= 2);
-    let mut segments = List::new(&mut segment_slots[0..slots]);
-    let mut sections = List::new(&mut section_slots);
-    match open(s, Bits64) {
-        Ok(walk) => {
-            let mut walk = walk;
-            for _ in 0..4 {
-                if let Err(e) = walk.step(&mut segments, &mut sections) {
-                    assert_eq!(rt; segments.count(), 0);
-                    assert_eq!(rt; sections.count(), 0);
-                    return Ok(e);
-                }
-            }
-            Err(Fail::new("no refusal"))
+    let mut listing = Listing {
+        segments: List::new(&mut segments[0..slots]),
+        sections: List::new(&mut sections),
+    };
+    let mut walk = match open(s, Bits64) {
+        Ok(walk) => walk,
+        Err((e, _)) => return Ok(told(e)),
+    };
+    for _ in 0..4 {
+        if let Err(e) = walk.step(&mut listing) {
+            assert_eq!(rt; listing.segments.count(), 0);
+            assert_eq!(rt; listing.sections.count(), 0);
+            return Ok(told(e));
         }
-        Err((e, _)) => Ok(e),
     }
+    Err(Fail::new("no refusal"))
 }
 
 #[test]
 fn a_segment_beyond_4_gib_is_listed_at_its_true_offsets(rt: HostRuntime) -> Result<(), Fail> {
     let s = Padded::new(LARGE, 0x1_0000_0100)?;
-    let mut segment_slots = [NO_SEGMENT; 1];
-    let mut section_slots = [NO_SECTION; 2];
-    let mut segments = List::new(&mut segment_slots);
-    let mut sections = List::new(&mut section_slots);
-    let Ok(mut walk) = open(&s, Bits64) else {
-        return Err(Fail::new("open"));
+    let mut segments = [SegmentRecord::default(); 1];
+    let mut sections = [SectionRecord::default(); 2];
+    let mut listing = Listing {
+        segments: List::new(&mut segments),
+        sections: List::new(&mut sections),
     };
-    assert_eq!(rt;
-        walk.step(&mut segments, &mut sections)?,
-        StepAnswer::Segment
-    );
-    let Err((early, back)) = walk.finish() else {
-        return Err(Fail::new("finished too early"));
-    };
-    assert_eq!(rt; early, refused(8, Level::Reading, 264));
-    let mut walk = back;
-    assert_eq!(rt; walk.step(&mut segments, &mut sections)?, StepAnswer::End);
-    assert_eq!(rt; walk.step(&mut segments, &mut sections)?, StepAnswer::End);
-    let Ok(reading) = walk.finish() else {
-        return Err(Fail::new("finish"));
-    };
+    let mut walk = open(&s, Bits64).map_err(|(e, _)| e)?;
+    assert_eq!(rt; walk.step(&mut listing)?, StepAnswer::Segment);
+    let (early, mut walk) = walk.finish().err().ok_or("finished too early")?;
+    assert_eq!(rt; told(early), (8, Level::Reading, 264));
+    assert_eq!(rt; walk.step(&mut listing)?, StepAnswer::End);
+    assert_eq!(rt; walk.step(&mut listing)?, StepAnswer::End);
+    let reading = walk.finish().map_err(|(e, _)| e)?;
+    let Listing { segments, sections } = listing;
     let first = reading.section(&sections, 1)?;
     assert_eq!(rt; first.offset, 0xffff_ff00);
     assert_eq!(rt; first.kind, SectionKind::Text);
@@ -121,44 +92,38 @@ fn a_segment_beyond_4_gib_is_listed_at_its_true_offsets(rt: HostRuntime) -> Resu
 
 #[test]
 fn refusals_name_their_places(rt: HostRuntime) -> Result<(), Fail> {
-    assert_eq!(rt;
-        refusal_of(&rt, &Plain(b""), 2)?,
-        refused(1, Level::Record, 0)
-    );
+    assert_eq!(rt; refusal_of(&rt, &Plain(b""), 2)?, (1, Level::Record, 0));
     assert_eq!(rt;
         refusal_of(&rt, &Plain(&LARGE[0..31]), 2)?,
-        refused(1, Level::Record, 0)
+        (1, Level::Record, 0)
     );
     assert_eq!(rt;
         refusal_of(&rt, &Padded::new(b"\xce\xfa\xed\xfe", 32)?, 2)?,
-        refused(2, Level::Record, 0)
+        (2, Level::Record, 0)
     );
     assert_eq!(rt;
         refusal_of(&rt, &Padded::new(LARGE, 0x1_0000_0100)?, 0)?,
-        refused(7, Level::Reading, 32)
+        (7, Level::Reading, 32)
     );
     assert_eq!(rt;
         refusal_of(&rt, &Padded::new(SYMTAB, 78)?, 2)?,
-        refused(6, Level::Record, 32)
+        (6, Level::Record, 32)
     );
     Ok(())
 }
 
 #[test]
 fn a_table_past_the_source_is_broken(rt: HostRuntime) -> Result<(), Fail> {
-    let mut segment_slots = [NO_SEGMENT; 1];
-    let mut section_slots = [NO_SECTION; 1];
-    let mut segments = List::new(&mut segment_slots);
-    let mut sections = List::new(&mut section_slots);
-    let s = Plain(&LARGE[0..263]);
-    let Ok(mut walk) = open(&s, Bits64) else {
-        return Err(Fail::new("open"));
+    let mut segments = [SegmentRecord::default(); 1];
+    let mut sections = [SectionRecord::default(); 1];
+    let mut listing = Listing {
+        segments: List::new(&mut segments),
+        sections: List::new(&mut sections),
     };
-    assert_eq!(rt;
-        walk.step(&mut segments, &mut sections)?,
-        StepAnswer::Broken
-    );
-    assert_eq!(rt; walk.step(&mut segments, &mut sections)?, StepAnswer::End);
+    let s = Plain(&LARGE[0..263]);
+    let mut walk = open(&s, Bits64).map_err(|(e, _)| e)?;
+    assert_eq!(rt; walk.step(&mut listing)?, StepAnswer::Broken);
+    assert_eq!(rt; walk.step(&mut listing)?, StepAnswer::End);
     assert!(rt; walk.finish().is_ok());
     Ok(())
 }

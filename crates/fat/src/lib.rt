@@ -17,14 +17,12 @@ use source::window::Window;
 pub fn count<S: Source, W: Width>(source: &S) -> Result<u32, Refusal>
     ensures { MatchResult result (λ n. Fat W.Width.wide (S.Source.bytes source.now) × (n ≡ count_of (S.Source.bytes source.now))) (λ e. NotFat W.Width.wide (S.Source.bytes source.now) e) }
 {
-    let Some(header) = FatHeader::read(source) else {
-        return Err(Reason::ShortFatHeader.at(0));
-    };
+    let header = FatHeader::read(source).ok_or(Reason::ShortFatHeader.at(0))?;
     if header.magic != W::either(FAT_MAGIC, FAT_MAGIC_64) {
         return Err(Reason::WrongFatMagic.at(0));
     }
     let table = u64::from(header.nfat_arch) * W::either(20, 32);
-    if source.len() < 8 + table {
+    if !source.has(8, table) {
         return Err(Reason::ShortFatHeader.at(0));
     }
     Ok(header.nfat_arch)
@@ -39,10 +37,8 @@ pub fn arch<S: Source, W: Width>(source: &S, number: u64) -> Result<FatArch, Ref
     if number >= u64::from(n) {
         return Err(Reason::UnknownMember.at(number));
     }
-    match FatArch::read::<S, W>(source, 8 + number * W::either(20, 32)) {
-        Some(arch) => Ok(arch),
-        None => Err(Reason::ShortFatHeader.at(0)),
-    }
+    let arch = FatArch::read::<S, W>(source, 8 + number * W::either(20, 32));
+    arch.ok_or(Reason::ShortFatHeader.at(0))
 }
 
 // The bytes of a member. Refused as `arch` is, and then when they pass the source.

@@ -1,24 +1,12 @@
 -- How a name grows byte by byte. Assumes nothing.
-use Rattle.std.proofs.Common.{◌≡◌, ℕ, suc, ◌+◌, ◌-◌, ◌<◌, ◌≤◌, List, [], ◌∷◌, ◌++◌, length, get_or, take, drop, set, sym, ap, ◌∙◌, append_assoc, arith, length-drop, length-take}
-use Rattle.std.proofs.lemmas.List.{append-nil, drop_more, take_more_set, nil_from_length}
+use Rattle.std.proofs.Common.{◌≡◌, ℕ, ◌+◌, ◌-◌, ◌<◌, List, [], ◌∷◌, ◌++◌, length, get_or, take, set, sym, ap, ◌∙◌, append_assoc, arith}
+use Rattle.std.proofs.lemmas.List.{append-nil, take_more_set}
 use Rattle.std.proofs.lemmas.Bool.{eq-eqb, ne_eqb, cond-true, cond-false}
 use Rattle.source.specs.Bytes.{run}
+use Rattle.source.proofs.Places.{run_first}
 use Rattle.fields.specs.Names.{before_zero}
 
--- the first byte of a run, and the rest of it
-pub run_first : (xs : List ℕ) (p n : ℕ) → 0 < n → p < length xs → run p n xs ≡ get_or xs p 0 ∷ run (p + 1) (n - 1) xs
-run_first xs p n z h =
-    let e : n ≡ suc (n - 1) = omega arith in
-    ap (take n) (drop_more xs p 0 h) ∙ ap (λ m. take m (get_or xs p 0 ∷ drop (p + 1) xs)) e
-
-run_past : (xs : List ℕ) (p n : ℕ) → length xs ≤ p → run p n xs ≡ []
-run_past xs p n h = nil_from_length (run p n xs) (simp (length-take, length-drop) (omega arith))
-
--- a name ends where the list does
-pub name_past : (xs ws : List ℕ) (p n : ℕ) → length xs ≤ p → ws ++ before_zero (run p n xs) ≡ ws
-name_past xs ws p n h = ap (λ t. ws ++ before_zero t) (run_past xs p n h) ∙ append-nil ws
-
--- and at a zero
+-- a name ends at a zero
 pub name_ends : (xs ws : List ℕ) (p n : ℕ) → 0 < n → p < length xs → get_or xs p 0 ≡ 0 → ws ++ before_zero (run p n xs) ≡ ws
 name_ends xs ws p n z h e =
     ap (λ t. ws ++ before_zero t) (run_first xs p n z h) ∙ ap (λ t. ws ++ t) (cond-true _ _ _ (eq-eqb _ _ e)) ∙ append-nil ws

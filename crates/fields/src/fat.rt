@@ -3,8 +3,7 @@
 ghost use Rattle.std.specs.Prelude.{◌≡◌};
 ghost use Rattle.fields.specs.Records.{fat_header_at, fat_arch_at};
 
-use crate::endian::Endianness;
-use crate::number::u32_at;
+use crate::number::Fields;
 use crate::width::Width;
 use source::source::Source;
 
@@ -12,7 +11,7 @@ pub const FAT_MAGIC: u32 = 0xcafe_babe;
 
 pub const FAT_MAGIC_64: u32 = 0xcafe_babf;
 
-#[derive(Clone, Copy)]
+#[derive(Clone, Copy, PartialEq, Eq, Debug)]
 pub struct FatHeader {
     pub magic: u32,
     pub nfat_arch: u32,
@@ -23,15 +22,16 @@ impl FatHeader {
     pub fn read<S: Source>(s: &S) -> Option<FatHeader>
         ensures { result ≡ fat_header_at (S.Source.bytes s.now) }
     {
+        let f = Fields::big_endian(s);
         Some(FatHeader {
-            magic: u32_at(s, 0, Endianness::Big)?,
-            nfat_arch: u32_at(s, 4, Endianness::Big)?,
+            magic: f.u32_at(0)?,
+            nfat_arch: f.u32_at(4)?,
         })
     }
 }
 
 // Where a member of a universal file is, and for which processor.
-#[derive(Clone, Copy)]
+#[derive(Clone, Copy, PartialEq, Eq, Debug)]
 pub struct FatArch {
     pub cputype: u32,
     pub offset: u64,
@@ -43,15 +43,14 @@ impl FatArch {
     pub fn read<S: Source, W: Width>(s: &S, p: u64) -> Option<FatArch>
         ensures { result ≡ fat_arch_at W.Width.wide (S.Source.bytes s.now) p }
     {
-        let len = s.len();
-        let size = W::either(20, 32);
-        if len < size || p > len - size {
+        if !s.has(p, W::either(20, 32)) {
             return None;
         }
+        let f = Fields::big_endian(s);
         Some(FatArch {
-            cputype: u32_at(s, p, Endianness::Big)?,
-            offset: W::word_at(s, p + 8, Endianness::Big)?,
-            size: W::word_at(s, p + W::either(12, 16), Endianness::Big)?,
+            cputype: f.u32_at(p)?,
+            offset: W::word_at(f, p + 8)?,
+            size: W::word_at(f, p + W::either(12, 16))?,
         })
     }
 }

@@ -3,7 +3,7 @@ ghost use Rattle.std.specs.Prelude.{◌≡◌};
 ghost use Rattle.fields.specs.Records.{header_at, endian_of};
 
 use crate::endian::Endianness;
-use crate::number::u32_at;
+use crate::number::Fields;
 use crate::width::Width;
 use source::source::Source;
 
@@ -15,7 +15,7 @@ pub const MH_MAGIC_64: u32 = 0xfeed_facf;
 
 pub const MH_CIGAM_64: u32 = 0xcffa_edfe;
 
-#[derive(Clone, Copy)]
+#[derive(Clone, Copy, PartialEq, Eq, Debug)]
 pub struct MachHeader {
     pub filetype: u32,
     pub ncmds: u32,
@@ -24,16 +24,16 @@ pub struct MachHeader {
 
 impl MachHeader {
     // The header at the start of a source, exactly when all of its record is there.
-    pub fn read<S: Source, W: Width>(s: &S, endian: Endianness) -> Option<MachHeader>
-        ensures { result ≡ header_at W.Width.wide (S.Source.bytes s.now) endian }
+    pub fn read<S: Source, W: Width>(f: Fields<S>) -> Option<MachHeader>
+        ensures { result ≡ header_at W.Width.wide (S.Source.bytes f.entry.source.now) f.entry.endian }
     {
-        if s.len() < W::either(28, 32) {
+        if !f.source.has(0, W::either(28, 32)) {
             return None;
         }
         Some(MachHeader {
-            filetype: u32_at(s, 12, endian)?,
-            ncmds: u32_at(s, 16, endian)?,
-            sizeofcmds: u32_at(s, 20, endian)?,
+            filetype: f.u32_at(12)?,
+            ncmds: f.u32_at(16)?,
+            sizeofcmds: f.u32_at(20)?,
         })
     }
 }

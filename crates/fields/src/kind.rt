@@ -5,7 +5,7 @@ ghost use Rattle.fields.specs.Kinds.{kind_of};
 use crate::endian::Endianness;
 use crate::fat::{FAT_MAGIC, FAT_MAGIC_64};
 use crate::header::{MH_CIGAM, MH_CIGAM_64, MH_MAGIC, MH_MAGIC_64};
-use crate::number::u32_at;
+use crate::number::Fields;
 use source::source::Source;
 use std::fmt;
 
@@ -23,7 +23,7 @@ impl FileKind {
     pub fn of<S: Source>(s: &S) -> FileKind
         ensures { result ≡ kind_of (S.Source.bytes s.now) }
     {
-        match u32_at(s, 0, Endianness::Big) {
+        match Fields::big_endian(s).u32_at(0) {
             Some(MH_MAGIC) => FileKind::MachO32(Endianness::Big),
             Some(MH_CIGAM) => FileKind::MachO32(Endianness::Little),
             Some(MH_MAGIC_64) => FileKind::MachO64(Endianness::Big),

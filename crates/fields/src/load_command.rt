@@ -2,12 +2,11 @@
 ghost use Rattle.std.specs.Prelude.{◌≡◌};
 ghost use Rattle.fields.specs.Records.{load_command_at, symtab_at};
 
-use crate::endian::Endianness;
-use crate::number::u32_at;
+use crate::number::Fields;
 use source::source::Source;
 
 // What every command begins with.
-#[derive(Clone, Copy)]
+#[derive(Clone, Copy, PartialEq, Eq, Debug)]
 pub struct LoadCommand {
     pub cmd: u32,
     pub cmdsize: u32,
@@ -15,22 +14,21 @@ pub struct LoadCommand {
 
 impl LoadCommand {
     // The first fields of the command at p, exactly when they are there.
-    pub fn read<S: Source>(s: &S, p: u64, endian: Endianness) -> Option<LoadCommand>
-        ensures { result ≡ load_command_at (S.Source.bytes s.now) p endian }
+    pub fn read<S: Source>(f: Fields<S>, p: u64) -> Option<LoadCommand>
+        ensures { result ≡ load_command_at (S.Source.bytes f.entry.source.now) p f.entry.endian }
     {
-        let len = s.len();
-        if len < 8 || p > len - 8 {
+        if !f.source.has(p, 8) {
             return None;
         }
         Some(LoadCommand {
-            cmd: u32_at(s, p, endian)?,
-            cmdsize: u32_at(s, p + 4, endian)?,
+            cmd: f.u32_at(p)?,
+            cmdsize: f.u32_at(p + 4)?,
         })
     }
 }
 
 // Where the symbols and their strings are.
-#[derive(Clone, Copy)]
+#[derive(Clone, Copy, PartialEq, Eq, Debug)]
 pub struct SymtabCommand {
     pub symoff: u32,
     pub nsyms: u32,
@@ -40,18 +38,17 @@ pub struct SymtabCommand {
 
 impl SymtabCommand {
     // The command at p, exactly when all of its record is there.
-    pub fn read<S: Source>(s: &S, p: u64, endian: Endianness) -> Option<SymtabCommand>
-        ensures { result ≡ symtab_at (S.Source.bytes s.now) p endian }
+    pub fn read<S: Source>(f: Fields<S>, p: u64) -> Option<SymtabCommand>
+        ensures { result ≡ symtab_at (S.Source.bytes f.entry.source.now) p f.entry.endian }
     {
-        let len = s.len();
-        if len < 24 || p > len - 24 {
+        if !f.source.has(p, 24) {
             return None;
         }
         Some(SymtabCommand {
-            symoff: u32_at(s, p + 8, endian)?,
-            nsyms: u32_at(s, p + 12, endian)?,
-            stroff: u32_at(s, p + 16, endian)?,
-            strsize: u32_at(s, p + 20, endian)?,
+            symoff: f.u32_at(p + 8)?,
+            nsyms: f.u32_at(p + 12)?,
+            stroff: f.u32_at(p + 16)?,
+            strsize: f.u32_at(p + 20)?,
         })
     }
 }

@@ -2,12 +2,11 @@
 ghost use Rattle.std.specs.Prelude.{◌≡◌, ◌+◌, ◌^◌, ◌<◌, OnSome};
 ghost use Rattle.fields.specs.Records.{segment_at, segment_size};
 
-use crate::endian::Endianness;
-use crate::number::u32_at;
+use crate::number::Fields;
 use crate::width::Width;
 use source::source::Source;
 
-#[derive(Clone, Copy)]
+#[derive(Clone, Copy, PartialEq, Eq, Debug)]
 pub struct Segment {
     pub fileoff: u64,
     pub filesize: u64,
@@ -18,21 +17,19 @@ pub struct Segment {
 
 impl Segment {
     // The command at p, exactly when all of its record is there.
-    pub fn read<S: Source, W: Width>(s: &S, p: u64, endian: Endianness) -> Option<Segment>
-        ensures value { result ≡ segment_at W.Width.wide (S.Source.bytes s.now) p endian }
+    pub fn read<S: Source, W: Width>(f: Fields<S>, p: u64) -> Option<Segment>
+        ensures value { result ≡ segment_at W.Width.wide (S.Source.bytes f.entry.source.now) p f.entry.endian }
         ensures bound { OnSome result (p + segment_size W.Width.wide < 2 ^ 64) }
     {
-        let len = s.len();
-        let size = W::either(56, 72);
-        if len < size || p > len - size {
+        if !f.source.has(p, W::either(56, 72)) {
             return None;
         }
         Some(Segment {
-            fileoff: W::word_at(s, p + W::either(32, 40), endian)?,
-            filesize: W::word_at(s, p + W::either(36, 48), endian)?,
-            initprot: u32_at(s, p + W::either(44, 60), endian)?,
-            nsects: u32_at(s, p + W::either(48, 64), endian)?,
-            flags: u32_at(s, p + W::either(52, 68), endian)?,
+            fileoff: W::word_at(f, p + W::either(32, 40))?,
+            filesize: W::word_at(f, p + W::either(36, 48))?,
+            initprot: f.u32_at(p + W::either(44, 60))?,
+            nsects: f.u32_at(p + W::either(48, 64))?,
+            flags: f.u32_at(p + W::either(52, 68))?,
         })
     }
 }

@@ -2,12 +2,11 @@
 ghost use Rattle.std.specs.Prelude.{◌≡◌};
 ghost use Rattle.fields.specs.Records.{nlist_at};
 
-use crate::endian::Endianness;
-use crate::number::{u16_at, u32_at};
+use crate::number::Fields;
 use crate::width::Width;
 use source::source::Source;
 
-#[derive(Clone, Copy)]
+#[derive(Clone, Copy, PartialEq, Eq, Debug)]
 pub struct Nlist {
     pub n_strx: u32,
     pub n_type: u8,
@@ -18,20 +17,18 @@ pub struct Nlist {
 
 impl Nlist {
     // The symbol at p, exactly when all of its record is there.
-    pub fn read<S: Source, W: Width>(s: &S, p: u64, endian: Endianness) -> Option<Nlist>
-        ensures { result ≡ nlist_at W.Width.wide (S.Source.bytes s.now) p endian }
+    pub fn read<S: Source, W: Width>(f: Fields<S>, p: u64) -> Option<Nlist>
+        ensures { result ≡ nlist_at W.Width.wide (S.Source.bytes f.entry.source.now) p f.entry.endian }
     {
-        let len = s.len();
-        let size = W::either(12, 16);
-        if len < size || p > len - size {
+        if !f.source.has(p, W::either(12, 16)) {
             return None;
         }
         Some(Nlist {
-            n_strx: u32_at(s, p, endian)?,
-            n_type: s.byte(p + 4)?,
-            n_sect: s.byte(p + 5)?,
-            n_desc: u16_at(s, p + 6, endian)?,
-            n_value: W::word_at(s, p + 8, endian)?,
+            n_strx: f.u32_at(p)?,
+            n_type: f.source.byte(p + 4)?,
+            n_sect: f.source.byte(p + 5)?,
+            n_desc: f.u16_at(p + 6)?,
+            n_value: W::word_at(f, p + 8)?,
         })
     }
 }

@@ -3,8 +3,7 @@ ghost use Rattle.std.specs.Prelude.{◌≡◌, Bool, true, false};
 ghost use Rattle.fields.specs.Numbers.{field};
 ghost use Rattle.fields.specs.Records.{at_width};
 
-use crate::endian::Endianness;
-use crate::number::{u32_at, u64_at};
+use crate::number::Fields;
 use source::source::Source;
 
 // What differs between a file of 32 bits and one of 64. Every record is read by one text,
@@ -17,14 +16,14 @@ pub trait Width {
         ensures { result ≡ at_width wide narrow broad };
 
     // The number of a whole word at p: four bytes or eight.
-    fn word_at<S: Source>(s: &S, p: u64, endian: Endianness) -> Option<u64>
-        ensures { result ≡ field (S.Source.bytes s.now) p (at_width wide 4 8) endian };
+    fn word_at<S: Source>(f: Fields<S>, p: u64) -> Option<u64>
+        ensures { result ≡ field (S.Source.bytes f.entry.source.now) p (at_width wide 4 8) f.entry.endian };
 }
 
-#[derive(Clone, Copy)]
+#[derive(Clone, Copy, PartialEq, Eq, Debug)]
 pub struct Bits32;
 
-#[derive(Clone, Copy)]
+#[derive(Clone, Copy, PartialEq, Eq, Debug)]
 pub struct Bits64;
 
 impl Width for Bits32 {
@@ -34,9 +33,8 @@ impl Width for Bits32 {
         narrow
     }
 
-    fn word_at<S: Source>(s: &S, p: u64, endian: Endianness) -> Option<u64> {
-        let v = u32_at(s, p, endian)?;
-        Some(u64::from(v))
+    fn word_at<S: Source>(f: Fields<S>, p: u64) -> Option<u64> {
+        f.u32_at(p).map(u64::from)
     }
 }
 
@@ -47,7 +45,7 @@ impl Width for Bits64 {
         broad
     }
 
-    fn word_at<S: Source>(s: &S, p: u64, endian: Endianness) -> Option<u64> {
-        u64_at(s, p, endian)
+    fn word_at<S: Source>(f: Fields<S>, p: u64) -> Option<u64> {
+        f.u64_at(p)
     }
 }

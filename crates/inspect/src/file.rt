@@ -1,8 +1,9 @@
-// Files as bytes in memory.
+// Files as bytes in memory. No clause can say what a file holds, so no library has these functions,
+// and each program reads its own files.
 use std::fs::File;
 use std::io::Read;
 
-// The whole of a file, in memory of the file's own size.
+// The whole of a file, in memory of the file's own size; `fs::read` would take more as it goes on.
 fn read_whole(rt: &HostRuntime, path: &str) -> anyhow::Result<Vec<u8>> {
     let mut file = File::open(rt, path)?;
     let room = usize::try_from(file.metadata()?.len())?;
@@ -11,13 +12,12 @@ fn read_whole(rt: &HostRuntime, path: &str) -> anyhow::Result<Vec<u8>> {
     Ok(bytes)
 }
 
-// The same; where it fails, one line says of which file and why.
+// One line says of which file and why.
+fn complain<T>(rt: &HostRuntime, path: &str, e: anyhow::Error) -> anyhow::Result<T> {
+    eprintln!(rt; "inspect: {path}: {e}")?;
+    Err(e)
+}
+
 pub(crate) fn read_file(rt: &HostRuntime, path: &str) -> anyhow::Result<Vec<u8>> {
-    match read_whole(rt, path) {
-        Ok(bytes) => Ok(bytes),
-        Err(e) => {
-            eprintln!(rt; "inspect: {path}: {e}")?;
-            Err(e)
-        }
-    }
+    read_whole(rt, path).or_else(|e| complain(rt, path, e))
 }

@@ -10,7 +10,7 @@ mod tables;
 use anyhow::anyhow;
 use file::read_file;
 use frames::{Extent, answer_frames};
-use listing::{Ask, list};
+use listing::{Ask, Printer};
 use source::join::Join;
 use source::plain::Plain;
 use std::env;
@@ -30,20 +30,59 @@ const HELP: &str = "usage: inspect FILE                list the segments and sec
        inspect --all-frames        the same, with symbols and object maps
        inspect --help              print this";
 
-fn one(rt: &HostRuntime, path: &str, ask: Ask, name: &str) -> anyhow::Result<()> {
+// What the words of the command line ask for.
+enum Command<'a> {
+    Help,
+    Frames(Extent),
+    File(&'a str, Ask<'a>),
+    Halves(&'a str, &'a str, Ask<'a>),
+}
+
+impl<'a> Command<'a> {
+    fn parse(words: &[&'a str]) -> Option<Command<'a>> {
+        match *words {
+            ["--help"] => Some(Command::Help),
+            ["--frames"] => Some(Command::Frames(Extent::Sections)),
+            ["--all-frames"] => Some(Command::Frames(Extent::Whole)),
+            [path] => Some(Command::File(path, Ask::Sections)),
+            ["--all", path] => Some(Command::File(path, Ask::All)),
+            ["--symbols", path] => Some(Command::File(path, Ask::Symbols)),
+            ["--map", path] => Some(Command::File(path, Ask::Map)),
+            [first, second] => Some(Command::Halves(first, second, Ask::Sections)),
+            ["--find", name, path] => Some(Command::File(path, Ask::Find(name))),
+            ["--all", first, second] => Some(Command::Halves(first, second, Ask::All)),
+            _ => None,
+        }
+    }
+
+    fn run(self, rt: &HostRuntime) -> anyhow::Result<()> {
+        match self {
+            Command::Help => Ok(rt.println(HELP)?),
+            Command::Frames(extent) => answer_frames(rt, extent),
+            Command::File(path, ask) => print_file(rt, path, ask),
+            Command::Halves(first, second, ask) => print_halves(rt, first, second, ask),
+        }
+    }
+}
+
+fn print_file(rt: &HostRuntime, path: &str, ask: Ask) -> anyhow::Result<()> {
     let bytes = read_file(rt, path)?;
+    let source = &Plain(&bytes);
     print!(rt; "{path}: ")?;
-    list(rt, &Plain(&bytes), ask, name)?;
+    Printer { rt, source, ask }.print()?;
     Ok(())
 }
 
 // Two halves as one file.
-fn two(rt: &HostRuntime, first: &str, second: &str, ask: Ask) -> anyhow::Result<()> {
+fn print_halves(rt: &HostRuntime, first: &str, second: &str, ask: Ask) -> anyhow::Result<()> {
     let front = read_file(rt, first)?;
     let back = read_file(rt, second)?;
     print!(rt; "{first} and {second}: ")?;
     match Join::new(Plain(&front), Plain(&back)) {
-        Ok(both) => list(rt, &both, ask, "")?,
+        Ok(both) => {
+            let source = &both;
+            Printer { rt, source, ask }.print()?;
+        }
         Err(e) => println!(rt; "{e}")?,
     }
     Ok(())
@@ -54,49 +93,12 @@ fn usage(rt: &HostRuntime) -> anyhow::Result<()> {
     Err(anyhow!("usage"))
 }
 
-fn help(rt: &HostRuntime) -> anyhow::Result<()> {
-    rt.println(HELP)?;
-    Ok(())
-}
-
-// One word: a file, or an option that takes none.
-fn run_one(rt: &HostRuntime, word: &str) -> anyhow::Result<()> {
-    match word {
-        "--frames" => answer_frames(rt, Extent::Sections),
-        "--all-frames" => answer_frames(rt, Extent::Whole),
-        "--help" => help(rt),
-        _ => one(rt, word, Ask::Sections, ""),
-    }
-}
-
-// Two words: two halves, or an option and its file.
-fn run_two(rt: &HostRuntime, first: &str, second: &str) -> anyhow::Result<()> {
-    match first {
-        "--all" => one(rt, second, Ask::All, ""),
-        "--symbols" => one(rt, second, Ask::Symbols, ""),
-        "--map" => one(rt, second, Ask::Map, ""),
-        _ => two(rt, first, second, Ask::Sections),
-    }
-}
-
-// Three words: a search, or two halves of which all is asked.
-fn run_three(rt: &HostRuntime, first: &str, second: &str, third: &str) -> anyhow::Result<()> {
-    match first {
-        "--find" => one(rt, third, Ask::Find, second),
-        "--all" => two(rt, second, third, Ask::All),
-        _ => usage(rt),
-    }
-}
-
-// What the words of the command line ask for.
 fn run(rt: &HostRuntime) -> anyhow::Result<()> {
-    let mut args = env::args(rt)?;
-    let _program = args.next();
-    match (args.next(), args.next(), args.next(), args.next()) {
-        (Some(a), None, None, None) => run_one(rt, a.as_str()),
-        (Some(a), Some(b), None, None) => run_two(rt, a.as_str(), b.as_str()),
-        (Some(a), Some(b), Some(c), None) => run_three(rt, a.as_str(), b.as_str(), c.as_str()),
-        _ => usage(rt),
+    let args: Vec<String> = env::args(rt)?.skip(1).collect(rt.alloc())?;
+    let words: Vec<&str> = args.iter().map(|word| word.as_str()).collect(rt.alloc())?;
+    match Command::parse(&words) {
+        Some(command) => command.run(rt),
+        None => usage(rt),
     }
 }
 

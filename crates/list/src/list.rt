@@ -1,7 +1,6 @@
 // A list over a caller's slice.
-ghost use Rattle.std.specs.Prelude.{◌≡◌, ◌+◌, ◌-◌, ◌^◌, ◌<◌, length};
-ghost use Rattle.std.specs.List.{slice_get};
-ghost use Rattle.list.specs.Contents.{contents_of, push_answer, pushed, got, free};
+ghost use Rattle.std.specs.Prelude.{◌≡◌, ◌+◌, ◌^◌, ◌<◌};
+ghost use Rattle.list.specs.Contents.{contents_of, empty, records, push_answer, pushed, got, free};
 
 use source::refusal::{Reason, Refusal};
 
@@ -14,8 +13,7 @@ pub struct List<'a, T> {
 impl<'a, T: Copy> List<'a, T> {
     // An empty list; the slots keep what they hold until a push takes them.
     pub fn new(slots: &'a mut [T]) -> List<'a, T>
-        ensures contents { contents_of result ≡ record { slots = slots.entry.now; count = 0 } }
-        ensures owner { result.slots.ghost_name ≡ slots.entry.ghost_name }
+        ensures { contents_of result ≡ empty slots.entry }
     {
         List { slots, count: 0 }
     }
@@ -24,7 +22,6 @@ impl<'a, T: Copy> List<'a, T> {
     pub fn push(&mut self, x: T, place: u64) -> Result<(), Refusal>
         ensures answer { result ≡ push_answer (contents_of self.old) place }
         ensures contents { contents_of self.new ≡ pushed (contents_of self.old) x }
-        ensures owner { self.new.slots.ghost_name ≡ self.old.slots.ghost_name }
     {
         if self.count < self.slots.len() {
             self.slots[self.count] = x;
@@ -35,15 +32,18 @@ impl<'a, T: Copy> List<'a, T> {
         }
     }
 
+    // The records, in order.
+    pub fn records(&self) -> &[T]
+        ensures { result.now ≡ records (contents_of self.now) }
+    {
+        &self.slots[..self.count.min(self.slots.len())]
+    }
+
     // The record at position i, counted from 0.
     pub fn get(&self, i: usize) -> Option<T>
         ensures { result ≡ got (contents_of self.now) i }
     {
-        if i < self.count {
-            read(self.slots, i)
-        } else {
-            None
-        }
+        self.records().get(i).copied()
     }
 
     // How many records there are.
@@ -60,15 +60,5 @@ impl<'a, T: Copy> List<'a, T> {
         ensures bound { self.now.count + result < 2 ^ 64 }
     {
         self.slots.len().saturating_sub(self.count)
-    }
-}
-
-fn read<T: Copy>(slots: &[T], i: usize) -> Option<T>
-    ensures { result ≡ slice_get slots.now i }
-{
-    if i < slots.len() {
-        Some(slots[i])
-    } else {
-        None
     }
 }

@@ -1,12 +1,12 @@
 // What symbols answer, and where their names stand.
-use crate::library::{NO_SECTION, library, nlist, reading_of, refused, span, symbol_place};
+use crate::library::{Told, library, nlist, reading_of, span, symbol_place, told};
 use fields::endian::Endianness;
 use fields::symbol::Nlist;
 use fields::width::{Bits32, Bits64, Width};
 use list::list::List;
 use sections::kind::SectionKind;
 use sections::record::SectionRecord;
-use source::refusal::{Level, Refusal};
+use source::refusal::Level;
 use source::span::Span;
 use std::alloc::Global;
 use std::process::Abort;
@@ -154,14 +154,6 @@ fn rows() -> [(Nlist, Symbol); 18] {
     ]
 }
 
-fn same(rt: &impl Abort, found: Symbol, expected: Symbol) {
-    assert_eq!(rt; found.address, expected.address);
-    assert_eq!(rt; found.section, expected.section);
-    assert_eq!(rt; found.kind, expected.kind);
-    assert_eq!(rt; found.scope, expected.scope);
-    assert_eq!(rt; found.weak, expected.weak);
-}
-
 // What the one symbol of a library answers; none if it is a stab.
 fn answer_of<W: Width + Drop>(
     rt: &impl Abort,
@@ -170,10 +162,10 @@ fn answer_of<W: Width + Drop>(
     endian: Endianness,
     given: Nlist,
 ) -> Result<Option<Symbol>, Fail> {
-    let mut slots = [NO_SECTION; 4];
+    let mut slots = [SectionRecord::default(); 4];
     let mut sections = List::new(&mut slots);
-    for row in SECTIONS {
-        sections.push(section(row.0, row.1), 0)?;
+    for (kind, addr) in SECTIONS {
+        sections.push(section(kind, addr), 0)?;
     }
     let bytes = library::<W>(heap, endian, STRINGS, &[given])?;
     let reading = reading_of(rt, &bytes, width)?;
@@ -187,10 +179,10 @@ fn answers_hold<W: Width + Copy>(
     endian: Endianness,
 ) -> Result<(), Fail> {
     for (given, expected) in rows() {
-        let symbol = answer_of(rt, heap, width, endian, given)?.ok_or("a stab")?;
-        same(rt, symbol, expected);
+        assert_eq!(rt; answer_of(rt, heap, width, endian, given)?, Some(expected));
     }
-    assert!(rt; answer_of(rt, heap, width, endian, nlist(12, 0x24, 1, 0, 0x1004))?.is_none());
+    let stab = nlist(12, 0x24, 1, 0, 0x1004);
+    assert_eq!(rt; answer_of(rt, heap, width, endian, stab)?, None);
     Ok(())
 }
 
@@ -211,11 +203,11 @@ fn name_of<W: Width + Drop>(
     endian: Endianness,
     n_strx: u32,
     number: u64,
-) -> Result<Result<Span, Refusal>, Fail> {
+) -> Result<Result<Span, Told>, Fail> {
     let symbols = [nlist(0, 0x0f, 1, 0, 0), nlist(n_strx, 0x0f, 1, 0, 0)];
     let bytes = library::<W>(heap, endian, b"\0name\0", &symbols)?;
     let reading = reading_of(rt, &bytes, width)?;
-    Ok(reading.name(number))
+    Ok(reading.name(number).map_err(told))
 }
 
 fn names_hold<W: Width + Copy>(
@@ -224,7 +216,7 @@ fn names_hold<W: Width + Copy>(
     width: W,
     endian: Endianness,
 ) -> Result<(), Fail> {
-    let unread = refused(10, Level::Record, symbol_place::<W>(6, 1));
+    let unread = (10, Level::Record, symbol_place::<W>(6, 1));
     let rows = [
         (0, 0, Ok(Span { start: 0, len: 0 })),
         (1, 1, Ok(span::<W>(1, 4))),
@@ -232,7 +224,7 @@ fn names_hold<W: Width + Copy>(
         (5, 1, Ok(span::<W>(5, 0))),
         (6, 1, Err(unread)),
         (7, 1, Err(unread)),
-        (1, 2, Err(refused(9, Level::Reading, 2))),
+        (1, 2, Err((9, Level::Reading, 2))),
     ];
     for (n_strx, number, expected) in rows {
         assert_eq!(rt; name_of(rt, heap, width, endian, n_strx, number)?, expected);
@@ -257,13 +249,9 @@ fn a_number_past_the_last_symbol_is_unknown(rt: HostRuntime) -> Result<(), Fail>
         &[nlist(12, 0, 0, 0, 0)],
     )?;
     let reading = reading_of(&rt, &bytes, Bits64)?;
-    let mut slots = [NO_SECTION; 1];
+    let mut slots = [SectionRecord::default(); 1];
     let sections = List::new(&mut slots);
-    match reading.symbol(&sections, 1) {
-        Ok(_) => Err(Fail::new("no refusal")),
-        Err(e) => {
-            assert_eq!(rt; e, refused(9, Level::Reading, 1));
-            Ok(())
-        },
-    }
+    let answer = reading.symbol(&sections, 1).map_err(told);
+    assert_eq!(rt; answer, Err((9, Level::Reading, 1)));
+    Ok(())
 }

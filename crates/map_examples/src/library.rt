@@ -4,10 +4,10 @@ use fields::endian::Endianness;
 use fields::symbol::Nlist;
 use fields::width::Width;
 use list::list::List;
+use reader::lists::Listing;
 use reader::reading::Reading;
 use reader::state::StepAnswer;
 use reader::walk::open;
-use sections::kind::SectionKind;
 use sections::record::{SectionRecord, SegmentRecord};
 use source::plain::Plain;
 use source::refusal::{Level, Refusal};
@@ -17,28 +17,11 @@ use std::alloc::Global;
 use std::process::Abort;
 use std::test::Fail;
 
-pub(crate) const NO_SEGMENT: SegmentRecord = SegmentRecord {
-    place: 0,
-    first: 0,
-    count: 0,
-    wrapped: false,
-};
+// What a refusal says: its number, its level and its place.
+pub(crate) type Told = (u8, Level, u64);
 
-pub(crate) const NO_SECTION: SectionRecord = SectionRecord {
-    number: 0,
-    kind: SectionKind::Unknown,
-    place: 0,
-    addr: 0,
-    size: 0,
-    offset: 0,
-};
-
-pub(crate) fn refused(number: u8, level: Level, place: u64) -> Refusal {
-    Refusal {
-        number,
-        level,
-        place,
-    }
+pub(crate) fn told(e: Refusal) -> Told {
+    (e.number(), e.level(), e.place)
 }
 
 pub(crate) fn nlist(n_strx: u32, n_type: u8, n_sect: u8, n_desc: u16, n_value: u64) -> Nlist {
@@ -51,46 +34,35 @@ pub(crate) fn nlist(n_strx: u32, n_type: u8, n_sect: u8, n_desc: u16, n_value: u
     }
 }
 
-fn put_u16(out: &mut Vec<u8>, x: u16, endian: Endianness) -> Result<(), Fail> {
-    match endian {
-        Endianness::Little => out.extend_from_slice(&x.to_le_bytes())?,
-        Endianness::Big => out.extend_from_slice(&x.to_be_bytes())?,
+// The bytes of a number, given greatest first.
+fn put<const N: usize>(
+    out: &mut Vec<u8>,
+    mut bytes: [u8; N],
+    endian: Endianness,
+) -> Result<(), Fail> {
+    if endian == Endianness::Little {
+        bytes.reverse();
     }
-    Ok(())
-}
-
-fn put_u32(out: &mut Vec<u8>, x: u32, endian: Endianness) -> Result<(), Fail> {
-    match endian {
-        Endianness::Little => out.extend_from_slice(&x.to_le_bytes())?,
-        Endianness::Big => out.extend_from_slice(&x.to_be_bytes())?,
-    }
-    Ok(())
-}
-
-fn put_u64(out: &mut Vec<u8>, x: u64, endian: Endianness) -> Result<(), Fail> {
-    match endian {
-        Endianness::Little => out.extend_from_slice(&x.to_le_bytes())?,
-        Endianness::Big => out.extend_from_slice(&x.to_be_bytes())?,
-    }
+    out.extend_from_slice(&bytes)?;
     Ok(())
 }
 
 fn put_all(out: &mut Vec<u8>, words: &[u32], endian: Endianness) -> Result<(), Fail> {
     for x in words {
-        put_u32(out, *x, endian)?;
+        put(out, x.to_be_bytes(), endian)?;
     }
     Ok(())
 }
 
 fn put_symbol<W: Width>(out: &mut Vec<u8>, symbol: Nlist, endian: Endianness) -> Result<(), Fail> {
-    put_u32(out, symbol.n_strx, endian)?;
+    put(out, symbol.n_strx.to_be_bytes(), endian)?;
     out.push(symbol.n_type)?;
     out.push(symbol.n_sect)?;
-    put_u16(out, symbol.n_desc, endian)?;
+    put(out, symbol.n_desc.to_be_bytes(), endian)?;
     if W::either(false, true) {
-        put_u64(out, symbol.n_value, endian)
+        put(out, symbol.n_value.to_be_bytes(), endian)
     } else {
-        put_u32(out, u32::try_from(symbol.n_value)?, endian)
+        put(out, u32::try_from(symbol.n_value)?.to_be_bytes(), endian)
     }
 }
 
@@ -144,18 +116,15 @@ pub(crate) fn reading_of<'a, W: Width + Drop>(
     bytes: &'a [u8],
     width: W,
 ) -> Result<Reading<Plain<'a>, W>, Fail> {
-    let mut segment_slots = [NO_SEGMENT; 1];
-    let mut section_slots = [NO_SECTION; 1];
-    let mut segments = List::new(&mut segment_slots);
-    let mut sections = List::new(&mut section_slots);
-    let Ok(mut walk) = open(Plain(bytes), width) else {
-        return Err(Fail::new("open"));
+    let mut segments = [SegmentRecord::default(); 1];
+    let mut sections = [SectionRecord::default(); 1];
+    let mut listing = Listing {
+        segments: List::new(&mut segments),
+        sections: List::new(&mut sections),
     };
+    let mut walk = open(Plain(bytes), width).map_err(|(e, _)| e)?;
     for expected in [StepAnswer::Symbols, StepAnswer::End] {
-        assert_eq!(rt; walk.step(&mut segments, &mut sections)?, expected);
+        assert_eq!(rt; walk.step(&mut listing)?, expected);
     }
-    match walk.finish() {
-        Ok(reading) => Ok(reading),
-        Err(_) => Err(Fail::new("finish")),
-    }
+    Ok(walk.finish().map_err(|(e, _)| e)?)
 }

@@ -1,15 +1,14 @@
 // The object map of small libraries.
-use crate::library::{library, nlist, reading_of, refused, span, symbol_place};
+use crate::library::{Told, library, nlist, reading_of, span, symbol_place, told};
 use fields::endian::Endianness;
 use fields::symbol::Nlist;
 use fields::width::{Bits32, Bits64, Width};
 use list::list::List;
+use reader::lists::ObjectMap;
 use reader::reading::Reading;
 use reader::state::MapAnswer;
 use source::plain::Plain;
-use source::refusal::{Level, Refusal};
-use source::source::Source;
-use source::span::Span;
+use source::refusal::Level;
 use stabs::map::{MapEntry, MapFile};
 use stabs::stab::{N_FUN, N_OSO, N_SO, N_STSYM};
 use std::alloc::Global;
@@ -20,20 +19,6 @@ use std::test::Fail;
 // a space stands there.
 const STRINGS: &[u8] = b" \0f\0a.o\0lib.a(x.o)\0g\0";
 
-const NO_SPAN: Span = Span { start: 0, len: 0 };
-
-const NO_FILE: MapFile = MapFile {
-    path: NO_SPAN,
-    member: None,
-};
-
-const NO_ENTRY: MapEntry = MapEntry {
-    address: 0,
-    size: 0,
-    name: NO_SPAN,
-    file: 0,
-};
-
 fn stab(n_type: u8, n_strx: u32, n_value: u64) -> Nlist {
     nlist(n_strx, n_type, 0, 0, n_value)
 }
@@ -41,10 +26,7 @@ fn stab(n_type: u8, n_strx: u32, n_value: u64) -> Nlist {
 fn file<W: Width>(path: (u64, u64), member: Option<(u64, u64)>) -> MapFile {
     MapFile {
         path: span::<W>(path.0, path.1),
-        member: match member {
-            Some(m) => Some(span::<W>(m.0, m.1)),
-            None => None,
-        },
+        member: member.map(|(index, len)| span::<W>(index, len)),
     }
 }
 
@@ -57,45 +39,15 @@ fn entry<W: Width>(address: u64, size: u64, index: u64, file: u64) -> MapEntry {
     }
 }
 
-fn same_files(rt: &impl Abort, found: &List<MapFile>, expected: &[MapFile]) -> Result<(), Fail> {
-    assert_eq!(rt; found.count(), expected.len());
-    for i in 0..expected.len() {
-        let file = found.get(i).ok_or("file")?;
-        assert_eq!(rt; file.path, expected[i].path);
-        assert_eq!(rt; file.member, expected[i].member);
-    }
-    Ok(())
-}
-
-fn same_entry(rt: &impl Abort, found: MapEntry, expected: MapEntry) {
-    assert_eq!(rt; found.address, expected.address);
-    assert_eq!(rt; found.size, expected.size);
-    assert_eq!(rt; found.name, expected.name);
-    assert_eq!(rt; found.file, expected.file);
-}
-
-fn same_entries(
-    rt: &impl Abort,
-    found: &List<MapEntry>,
-    expected: &[MapEntry],
-) -> Result<(), Fail> {
-    assert_eq!(rt; found.count(), expected.len());
-    for i in 0..expected.len() {
-        same_entry(rt, found.get(i).ok_or("entry")?, expected[i]);
-    }
-    Ok(())
-}
-
 // The map's next steps answer so.
 fn steps<W: Width>(
     rt: &impl Abort,
     reading: &mut Reading<Plain, W>,
-    files: &mut List<MapFile>,
-    entries: &mut List<MapEntry>,
-    expected: &[Result<MapAnswer, Refusal>],
+    map: &mut ObjectMap,
+    expected: &[Result<MapAnswer, Told>],
 ) {
     for answer in expected {
-        assert_eq!(rt; reading.map_step(files, entries), *answer);
+        assert_eq!(rt; reading.map_step(map).map_err(told), *answer);
     }
 }
 
@@ -109,30 +61,22 @@ fn maps_to<W: Width + Drop>(
     files_expected: &[MapFile],
     entries_expected: &[MapEntry],
 ) -> Result<(), Fail> {
-    let mut file_slots = [NO_FILE; 2];
-    let mut entry_slots = [NO_ENTRY; 3];
-    let mut files = List::new(&mut file_slots);
-    let mut entries = List::new(&mut entry_slots);
+    let mut files = [MapFile::default(); 2];
+    let mut entries = [MapEntry::default(); 3];
+    let mut map = ObjectMap {
+        files: List::new(&mut files),
+        entries: List::new(&mut entries),
+    };
     let bytes = library::<W>(heap, endian, STRINGS, symbols)?;
     let mut reading = reading_of(rt, &bytes, width)?;
     for _ in symbols {
-        steps(
-            rt,
-            &mut reading,
-            &mut files,
-            &mut entries,
-            &[Ok(MapAnswer::Passed)],
-        );
+        steps(rt, &mut reading, &mut map, &[Ok(MapAnswer::Passed)]);
     }
-    steps(
-        rt,
-        &mut reading,
-        &mut files,
-        &mut entries,
-        &[Ok(MapAnswer::End), Ok(MapAnswer::End)],
-    );
-    same_files(rt, &files, files_expected)?;
-    same_entries(rt, &entries, entries_expected)
+    let end = Ok(MapAnswer::End);
+    steps(rt, &mut reading, &mut map, &[end, end]);
+    assert_eq!(rt; map.files.records(), files_expected);
+    assert_eq!(rt; map.entries.records(), entries_expected);
+    Ok(())
 }
 
 fn maps_hold<W: Width + Copy>(
@@ -232,32 +176,33 @@ fn a_full_list_refuses_and_nothing_changes(rt: HostRuntime) -> Result<(), Fail> 
     let mut reading = reading_of(&rt, &bytes, Bits64)?;
     let mut no_files = [];
     let mut no_entries = [];
-    let mut file_slots = [NO_FILE; 1];
-    let mut entry_slots = [NO_ENTRY; 1];
-    let mut full_files = List::new(&mut no_files);
-    let mut full_entries = List::new(&mut no_entries);
-    let mut files = List::new(&mut file_slots);
-    let mut entries = List::new(&mut entry_slots);
+    let mut file_slots = [MapFile::default(); 1];
+    let mut entry_slots = [MapEntry::default(); 1];
     let passed = Ok(MapAnswer::Passed);
     let end = Ok(MapAnswer::End);
-    let first = Err(refused(7, Level::Reading, symbol_place::<Bits64>(21, 0)));
-    let third = Err(refused(7, Level::Reading, symbol_place::<Bits64>(21, 2)));
-    steps(
-        &rt,
-        &mut reading,
-        &mut full_files,
-        &mut entries,
-        &[first, first],
-    );
-    steps(
-        &rt,
-        &mut reading,
-        &mut files,
-        &mut full_entries,
-        &[passed, passed, third, third],
-    );
-    same_entries(&rt, &entries, &[])?;
-    steps(&rt, &mut reading, &mut files, &mut entries, &[passed, end]);
-    same_files(&rt, &files, &[file::<Bits64>((4, 3), None)])?;
-    same_entries(&rt, &entries, &[entry::<Bits64>(16, 8, 2, 0)])
+    let first = Err((7, Level::Reading, symbol_place::<Bits64>(21, 0)));
+    let third = Err((7, Level::Reading, symbol_place::<Bits64>(21, 2)));
+    // No room for a file
+    let mut map = ObjectMap {
+        files: List::new(&mut no_files),
+        entries: List::new(&mut entry_slots),
+    };
+    steps(&rt, &mut reading, &mut map, &[first, first]);
+    let ObjectMap { files: _, entries } = map;
+    // No room for an entry
+    let mut map = ObjectMap {
+        files: List::new(&mut file_slots),
+        entries: List::new(&mut no_entries),
+    };
+    steps(&rt, &mut reading, &mut map, &[passed, passed, third, third]);
+    let ObjectMap { files, entries: _ } = map;
+    // Room for both
+    let mut map = ObjectMap { files, entries };
+    assert_eq!(rt; map.entries.count(), 0);
+    steps(&rt, &mut reading, &mut map, &[passed, end]);
+    let file = file::<Bits64>((4, 3), None);
+    assert_eq!(rt; map.files.records(), [file].as_slice());
+    let entry = entry::<Bits64>(16, 8, 2, 0);
+    assert_eq!(rt; map.entries.records(), [entry].as_slice());
+    Ok(())
 }

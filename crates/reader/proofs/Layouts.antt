@@ -1,8 +1,8 @@
 -- A segment beyond 4 GiB is listed as its only layout. Assumes nothing.
-use Rattle.std.proofs.Common.{◌≡◌, ℕ, ◌+◌, ◌-◌, ◌*◌, ◌%◌, ◌^◌, ◌<◌, ◌≤◌, min, Bool, true, false, cond, eqb, ltb, leb, List as Row, ◌++◌, length, drop, set, Some, None, Ok, Err, Result, sym, refl, ap, ◌∙◌, subst, inl, inr, mod-eq_of_lt, arith, length-set, length-take}
+use Rattle.std.proofs.Common.{◌≡◌, ℕ, ◌+◌, ◌-◌, ◌*◌, ◌%◌, ◌^◌, ◌<◌, ◌≤◌, min, Bool, false, eqb, ltb, leb, List as Row, ◌++◌, length, drop, set, Some, None, Option, Ok, Err, Result, sym, refl, ap, ◌∙◌, subst, inl, inr, mod-eq_of_lt, arith, length-set, length-take}
 use Rattle.std.proofs.lemmas.List.{drop_at, drop_all, append-nil, get_or-set_same}
 use Rattle.std.proofs.lemmas.Option.{slice_get-get_or}
-use Rattle.std.proofs.lemmas.Bool.{cases_lt, cond-true, cond-false, or_from, eq-eqb, ne_eqb, lt-ltb, le-ltb, lt-leb, leb-false, and_parts, leb-true, ltb-false}
+use Rattle.std.proofs.lemmas.Bool.{cases_lt, cond-true, cond-false, cond_both, or_from, eq-eqb, ne_eqb, lt-ltb, le-ltb, lt-leb, leb-false, and_parts, leb-true, ltb-false}
 use Rattle.source.specs.declared.refusal.Refusal.{Refusal}
 use Rattle.list.specs.Contents.{Contents, free, got, records, added}
 use Rattle.fields.specs.declared.load_command.LoadCommand.{LoadCommand}
@@ -16,8 +16,7 @@ use Rattle.sections.specs.Layouts.{backed_offsets, Layout}
 use Rattle.sections.specs.Listings.{checked, filled}
 use Rattle.sections.specs.Offsets.{begun}
 use Rattle.sections.proofs.Layouts.{starts_from, rows_from, Far, sound, complete, unwrapped_before, filled-rows, rows_starts}
-use Rattle.reader.specs.declared.state.Next.{Next}
-use Rattle.reader.specs.declared.state.Next.TheVariants.{Nothing, Damage, Command}
+use Rattle.reader.specs.declared.state.Damage.{Damage}
 use Rattle.reader.specs.declared.state.SegmentPlan.{SegmentPlan}
 use Rattle.reader.specs.declared.state.State.{State}
 use Rattle.reader.specs.declared.state.StepAnswer.TheVariants.{Segment}
@@ -25,35 +24,24 @@ use Rattle.reader.specs.Commands.{rest, stands, next_of, plan_of, deed_of, plan_
 use Rattle.reader.specs.Layouts.{next_segment, own_sections, IsLayout, ComesBeyond, ListedUnwrapped, listed_starts, ListedAsItsOnlyLayout, NextSegmentIsListedAsItsOnlyLayout}
 use Rattle.reader.specs.Walks.{next_number, lacks_room, segment_record, done_by, stepped_by, step_of}
 
-skip : (c : LoadCommand) (b : Bool) (n m : Next) → (n ≡ Command c → ⊥) → cond b n m ≡ Command c → (b ≡ false) × (m ≡ Command c)
-skip c true n m never e = absurd (never e)
-skip c false n m never e = (refl, e)
-
-keep : (c : LoadCommand) (b : Bool) (n m : Next) → (m ≡ Command c → ⊥) → cond b n m ≡ Command c → (b ≡ true) × (n ≡ Command c)
-keep c true n m never e = (refl, e)
-keep c false n m never e = absurd (never e)
-
-no_nothing : (c : LoadCommand) → Nothing ≡ Command c → ⊥
-no_nothing c e = let z : ◌≡◌ {A = ℕ} 0 1 = cc in omega arith
-
-no_damage : (c : LoadCommand) → Damage ≡ Command c → ⊥
-no_damage c e = let z : ◌≡◌ {A = ℕ} 0 1 = cc in omega arith
-
 -- a command that a step comes to ends inside the source
-pub next_inside : (xs : Row ℕ) (w : State) (c : LoadCommand) → next_of xs w ≡ Command c → w.place + c.cmdsize ≤ length xs
+pub next_inside : (xs : Row ℕ) (w : State) (c : LoadCommand) → next_of xs w ≡ Ok (Some c) → w.place + c.cmdsize ≤ length xs
 unfolding next_of
-next_inside xs w c e =
+next_inside xs w c =
     let here = load_command xs w.place w.endian in
-    let a = skip c w.over Nothing _ (no_nothing c) e in
-    let b = skip c (ltb (length xs) w.table_end) Damage _ (no_damage c) a.1 in
-    let d = skip c (eqb w.left 0) Nothing _ (no_nothing c) b.1 in
-    let f = skip c (ltb (rest w) 8) Damage _ (no_damage c) d.1 in
-    let g = keep c (stands w here) (Command here) Damage (no_damage c) f.1 in
-    let same : here.cmdsize ≡ c.cmdsize = cc g.1 in
-    let table : w.table_end ≤ length xs = ltb-false (length xs) w.table_end b.0 in
-    let eight : 8 ≤ rest w = ltb-false (rest w) 8 f.0 in
-    let size : here.cmdsize ≤ rest w = leb-true here.cmdsize (rest w) (and_parts (leb 8 here.cmdsize) (leb here.cmdsize (rest w)) g.0).1 in
-    omega arith
+    let Ends : Result (Option LoadCommand) Damage → Type 0 = λ n. n ≡ Ok (Some c) → w.place + c.cmdsize ≤ length xs in
+    cond_both w.over _ _ Ends (λ over e. absurd (cc))
+    (λ on. cond_both (ltb (length xs) w.table_end) _ _ Ends (λ past e. absurd (cc))
+    (λ table. cond_both (eqb w.left 0) _ _ Ends (λ none e. absurd (cc))
+    (λ some. cond_both (ltb (rest w) 8) _ _ Ends (λ short e. absurd (cc))
+    (λ eight. cond_both (stands w here) _ _ Ends
+    (λ stand e.
+    let same : here.cmdsize ≡ c.cmdsize = cc e in
+    let a : w.table_end ≤ length xs = ltb-false _ _ table in
+    let b : 8 ≤ rest w = ltb-false (rest w) 8 eight in
+    let d : here.cmdsize ≤ rest w = leb-true here.cmdsize (rest w) (and_parts (leb 8 here.cmdsize) (leb here.cmdsize (rest w)) stand).1 in
+    omega arith)
+    (λ falls e. absurd (cc))))))
 
 got-added : {X : Type 0} (l : Contents X) (x : X) → l.count < length l.slots → got (added l x) l.count ≡ Some x
 got-added l x h =
@@ -161,7 +149,7 @@ module _ (wide : Bool) (xs : Row ℕ) (w : State) (segments : Contents SegmentRe
   has_layout u (Err e) eq =
       let a = u.answer in
       let b : (step_of wide xs w segments sections).answer ≡ Err e = ap (λ s. s.answer) (step_is (Err e) eq) in
-      absurd (let z : ◌≡◌ {A = ℕ} 0 1 = cc in omega arith)
+      absurd (cc)
   has_layout u (Ok after) eq =
       let a = u.listed in
       let b = record_is after eq in

@@ -1,5 +1,5 @@
 -- The load commands of a library: which command comes next, and what it asks for. Assumes nothing.
-use Rattle.std.specs.Prelude.{ℕ, ◌+◌, ◌-◌, ◌*◌, ◌^◌, ◌<◌, ◌≤◌, Bool, cond, not, ◌&&◌, ◌||◌, List, length, Some, None, Ok, Err, Option, Result, ◌==◌, nat_le, nat_lt}
+use Rattle.std.specs.Prelude.{ℕ, ◌+◌, ◌-◌, ◌*◌, Bool, cond, not, ◌&&◌, ◌||◌, List, length, Some, None, Ok, Err, Option, Result, ◌==◌, nat_le, nat_lt}
 use Rattle.source.specs.declared.refusal.Reason.TheVariants.{ShortCommand, SectionsPastCommand, SymbolsPastSource}
 use Rattle.source.specs.declared.refusal.Refusal.{Refusal}
 use Rattle.source.specs.Refusals.{refusal}
@@ -12,12 +12,15 @@ use Rattle.sections.specs.declared.record.SectionTable.{SectionTable}
 use Rattle.sections.specs.Kinds.{meets}
 use Rattle.sections.specs.Listings.{checked}
 use Rattle.sections.specs.Offsets.{begun}
+use Rattle.reader.specs.declared.state.Damage.{Damage}
 use Rattle.reader.specs.declared.state.Deed.{Deed}
-use Rattle.reader.specs.declared.state.Deed.TheVariants.{List as ListIt, Remember, Pass}
-use Rattle.reader.specs.declared.state.Next.{Next}
-use Rattle.reader.specs.declared.state.Next.TheVariants.{Nothing, Damage, Command}
+use Rattle.reader.specs.declared.state.Deed.TheVariants.{List as ListIt, Remember}
 use Rattle.reader.specs.declared.state.SegmentPlan.{SegmentPlan}
 use Rattle.reader.specs.declared.state.State.{State}
+
+-- what a command that does not stand is
+abbrev pub damage : Damage
+damage = record {}
 
 -- the bytes of the table from the next command on
 abbrev pub rest : State → ℕ
@@ -29,19 +32,13 @@ stands w c = nat_le 8 c.cmdsize && nat_le c.cmdsize (rest w)
 
 -- the command that a step comes to: none once the walk is over or no command is left, and damage where
 -- the table passes the source or the command does not stand
-unfoldable pub next_of : List ℕ → State → Next
+unfoldable pub next_of : List ℕ → State → Result (Option LoadCommand) Damage
 next_of xs w =
-    cond w.over Nothing
-    (cond (nat_lt (length xs) w.table_end) Damage
-    (cond (w.left == 0) Nothing
-    (cond (nat_lt (rest w) 8) Damage
-    (cond (stands w (load_command xs w.place w.endian)) (Command (load_command xs w.place w.endian)) Damage))))
-
--- a command that a step comes to lies inside the source, and is counted
-abbrev pub Inside : List ℕ → State → Next → Type 0
-Inside xs w Nothing = Unit {0}
-Inside xs w Damage = Unit {0}
-Inside xs w (Command c) = (w.place + c.cmdsize ≤ length xs) × (w.place + c.cmdsize < 2 ^ 64) × (1 ≤ w.left)
+    cond w.over (Ok None)
+    (cond (nat_lt (length xs) w.table_end) (Err damage)
+    (cond (w.left == 0) (Ok None)
+    (cond (nat_lt (rest w) 8) (Err damage)
+    (cond (stands w (load_command xs w.place w.endian)) (Ok (Some (load_command xs w.place w.endian))) (Err damage)))))
 
 -- what a segment says of writing: in an object file nothing; else that it may not be written to at
 -- first, or not after the loader has set it up
@@ -80,12 +77,12 @@ symtab_of wide xs w c =
     cond (nat_lt c.cmdsize 24) (Err (refusal ShortCommand w.place))
     (cond (nat_lt (length xs) (t.symoff + t.nsyms * nlist_size wide)) (Err (refusal SymbolsPastSource w.place)) (Ok t))
 
-abbrev pub list_by : Result SegmentPlan Refusal → Result Deed Refusal
-list_by (Ok p) = Ok (ListIt p)
+abbrev pub list_by : Result SegmentPlan Refusal → Result (Option Deed) Refusal
+list_by (Ok p) = Ok (Some (ListIt p))
 list_by (Err e) = Err e
 
-abbrev pub remember_by : Result SymtabCommand Refusal → Result Deed Refusal
-remember_by (Ok t) = Ok (Remember t)
+abbrev pub remember_by : Result SymtabCommand Refusal → Result (Option Deed) Refusal
+remember_by (Ok t) = Ok (Some (Remember t))
 remember_by (Err e) = Err e
 
 -- LC_SEGMENT and LC_SEGMENT_64
@@ -93,7 +90,7 @@ abbrev pub segment_command : Bool → ℕ
 segment_command wide = at_width wide 0x1 0x19
 
 -- what a command asks for; LC_SYMTAB is 2
-unfoldable pub deed_of : Bool → List ℕ → State → LoadCommand → Result Deed Refusal
+unfoldable pub deed_of : Bool → List ℕ → State → LoadCommand → Result (Option Deed) Refusal
 deed_of wide xs w c =
     cond (c.cmd == segment_command wide) (list_by (plan_of wide xs w c))
-    (cond (c.cmd == 0x2) (remember_by (symtab_of wide xs w c)) (Ok Pass))
+    (cond (c.cmd == 0x2) (remember_by (symtab_of wide xs w c)) (Ok None))

@@ -8,7 +8,6 @@ use Rattle.fields.specs.Records.{segment, segment_size, section_size}
 use Rattle.sections.specs.declared.record.SectionRecord.{SectionRecord}
 use Rattle.sections.specs.declared.record.SegmentRecord.{SegmentRecord}
 use Rattle.sections.specs.Layouts.{sections_from, backed_offsets, SegmentLayout}
-use Rattle.reader.specs.declared.state.Next.TheVariants.{Command}
 use Rattle.reader.specs.declared.state.State.{State}
 use Rattle.reader.specs.declared.state.StepAnswer.TheVariants.{Segment}
 use Rattle.reader.specs.Commands.{next_of, segment_command, table_of}
@@ -29,7 +28,7 @@ module _ (wide : Bool) (xs : Row ℕ) (w : State) where
   module _ (segments : Contents SegmentRecord) (sections : Contents SectionRecord) where
     -- the next step comes to a native segment beyond 4 GiB, with its records whole and slots free
     pub record ComesBeyond (c : LoadCommand) : Type 0 where
-      pub next : next_of xs w ≡ Command c
+      pub next : next_of xs w ≡ Ok (Some c)
       pub native : c.cmd ≡ segment_command wide
       pub whole : segment_size wide + next_segment.nsects * section_size wide ≤ c.cmdsize
       pub segment_slot : 1 ≤ free segments

@@ -1,5 +1,5 @@
 -- What a finished reading answers. Assumes nothing.
-use Rattle.std.specs.Prelude.{ℕ, ◌-◌, cond, List, [], ◌∷◌, Some, None, Ok, Err, Option, Result, ◌==◌}
+use Rattle.std.specs.Prelude.{ℕ, ◌-◌, cond, find, List, Some, None, Ok, Err, Option, Result, ◌==◌}
 use Rattle.source.specs.declared.refusal.Reason.TheVariants.{UnknownNumber}
 use Rattle.source.specs.declared.refusal.Refusal.{Refusal}
 use Rattle.source.specs.Refusals.{refusal}
@@ -18,5 +18,4 @@ section_of sections number = cond (number == 0) (Err (refusal UnknownNumber numb
 
 -- the first of the sections whose name, which stands at its record's place, the query means
 abbrev pub find_in : List ℕ → List ℕ → List SectionRecord → Option SectionRecord
-find_in xs query [] = None
-find_in xs query (x ∷ rest) = cond (matching query (name_at xs x.place)) (Some x) (find_in xs query rest)
+find_in xs query rows = find (λ x. matching query (name_at xs x.place)) rows

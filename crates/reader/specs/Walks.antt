@@ -3,7 +3,7 @@ use Rattle.std.specs.Prelude.{ℕ, ◌+◌, ◌-◌, ◌^◌, min, Bool, true, f
 use Rattle.source.specs.declared.refusal.Reason.TheVariants.{ShortHeader, WrongMagic, ListFull}
 use Rattle.source.specs.declared.refusal.Refusal.{Refusal}
 use Rattle.source.specs.Refusals.{refusal}
-use Rattle.list.specs.Contents.{Contents, free, pushed}
+use Rattle.list.specs.Contents.{Contents, contents_of, free, pushed}
 use Rattle.fields.specs.declared.endian.Endianness.{Endianness}
 use Rattle.fields.specs.declared.endian.Endianness.TheVariants.{Big}
 use Rattle.fields.specs.declared.load_command.LoadCommand.{LoadCommand}
@@ -13,10 +13,10 @@ use Rattle.fields.specs.Records.{header, header_size, endian_of}
 use Rattle.sections.specs.declared.record.SectionRecord.{SectionRecord}
 use Rattle.sections.specs.declared.record.SegmentRecord.{SegmentRecord}
 use Rattle.sections.specs.Listings.{filled}
+use Rattle.reader.specs.declared.lists.Listing.{Listing}
+use Rattle.reader.specs.declared.state.Damage.{Damage}
 use Rattle.reader.specs.declared.state.Deed.{Deed}
-use Rattle.reader.specs.declared.state.Deed.TheVariants.{List as ListIt, Remember, Pass}
-use Rattle.reader.specs.declared.state.Next.{Next}
-use Rattle.reader.specs.declared.state.Next.TheVariants.{Nothing, Damage, Command}
+use Rattle.reader.specs.declared.state.Deed.TheVariants.{List as ListIt, Remember}
 use Rattle.reader.specs.declared.state.SegmentPlan.{SegmentPlan}
 use Rattle.reader.specs.declared.state.State.{State}
 use Rattle.reader.specs.declared.state.StepAnswer.{StepAnswer}
@@ -72,47 +72,38 @@ pub record Step : Type 0 where
   pub segments : Contents SegmentRecord
   pub sections : Contents SectionRecord
 
+-- what a listing comes to after a step that answered so and left this state
+abbrev pub step_left : Result StepAnswer Refusal → State → Listing → Step
+step_left answer w l = record { answer = answer; state = w; segments = contents_of l.segments; sections = contents_of l.sections }
+
+-- the same of a command that was taken: an answer and the state past it, or a refusal, which leaves the state as it was
+abbrev pub left_by : Result (StepAnswer × State) Refusal → State → Listing → Step
+left_by (Ok p) w l = step_left (Ok p.0) p.1 l
+left_by (Err e) w l = step_left (Err e) w l
+
 -- past a command
 abbrev pub moved : State → LoadCommand → Option SymtabCommand → State
-moved w c t =
-    record {
-      endian = w.endian;
-      filetype = w.filetype;
-      place = w.place + c.cmdsize;
-      left = w.left - 1;
-      table_end = w.table_end;
-      over = w.over;
-      symtab = t;
-    }
+moved w c t = record w { place = w.place + c.cmdsize; left = w.left - 1; symtab = t }
 
 abbrev pub ended : State → State
-ended w =
-    record {
-      endian = w.endian;
-      filetype = w.filetype;
-      place = w.place;
-      left = w.left;
-      table_end = w.table_end;
-      over = true;
-      symtab = w.symtab;
-    }
+ended w = record w { over = true }
 
 -- a refused command is not passed
 abbrev pub moved_if : {X : Type 0} → Result X Refusal → State → State → State
 moved_if (Ok a) w after = after
 moved_if (Err e) w after = w
 
-abbrev pub done_by : Bool → Row ℕ → State → LoadCommand → Contents SegmentRecord → Contents SectionRecord → Result Deed Refusal → Step
-done_by wide xs w c segments sections (Ok (ListIt p)) =
+abbrev pub done_by : Bool → Row ℕ → State → LoadCommand → Contents SegmentRecord → Contents SectionRecord → Result (Option Deed) Refusal → Step
+done_by wide xs w c segments sections (Ok (Some (ListIt p))) =
     record {
       answer = list_answer p segments sections;
       state = moved_if (list_answer p segments sections) w (moved w c w.symtab);
       segments = listed_segments p segments sections;
       sections = listed_sections wide xs p segments sections;
     }
-done_by wide xs w c segments sections (Ok (Remember t)) =
+done_by wide xs w c segments sections (Ok (Some (Remember t))) =
     record { answer = Ok Symbols; state = moved w c (Some t); segments = segments; sections = sections }
-done_by wide xs w c segments sections (Ok Pass) =
+done_by wide xs w c segments sections (Ok None) =
     record { answer = Ok Passed; state = moved w c w.symtab; segments = segments; sections = sections }
 done_by wide xs w c segments sections (Err e) = record { answer = Err e; state = w; segments = segments; sections = sections }
 
@@ -120,10 +111,10 @@ done_by wide xs w c segments sections (Err e) = record { answer = Err e; state =
 abbrev pub taken_of : Bool → Row ℕ → State → LoadCommand → Contents SegmentRecord → Contents SectionRecord → Step
 taken_of wide xs w c segments sections = done_by wide xs w c segments sections (deed_of wide xs w c)
 
-abbrev pub stepped_by : Bool → Row ℕ → State → Contents SegmentRecord → Contents SectionRecord → Next → Step
-stepped_by wide xs w segments sections Nothing = record { answer = Ok End; state = ended w; segments = segments; sections = sections }
-stepped_by wide xs w segments sections Damage = record { answer = Ok Broken; state = ended w; segments = segments; sections = sections }
-stepped_by wide xs w segments sections (Command c) = taken_of wide xs w c segments sections
+abbrev pub stepped_by : Bool → Row ℕ → State → Contents SegmentRecord → Contents SectionRecord → Result (Option LoadCommand) Damage → Step
+stepped_by wide xs w segments sections (Ok None) = record { answer = Ok End; state = ended w; segments = segments; sections = sections }
+stepped_by wide xs w segments sections (Err d) = record { answer = Ok Broken; state = ended w; segments = segments; sections = sections }
+stepped_by wide xs w segments sections (Ok (Some c)) = taken_of wide xs w c segments sections
 
 abbrev pub step_of : Bool → Row ℕ → State → Contents SegmentRecord → Contents SectionRecord → Step
 step_of wide xs w segments sections = stepped_by wide xs w segments sections (next_of xs w)

@@ -1,13 +1,17 @@
 // What a walk keeps from step to step, and what a step answers.
+ghost use Rattle.std.specs.Prelude.{◌≡◌};
+ghost use Rattle.reader.specs.Walks.{ended};
+
 use fields::endian::Endianness;
-use fields::load_command::{LoadCommand, SymtabCommand};
+use fields::load_command::SymtabCommand;
+use fields::number::Fields;
 use sections::offset::SectionOffsets;
 use sections::record::SectionTable;
 use stabs::cursor::MapCursor;
 
 // How far a walk has come. The command table is the bytes from the header's end up to `table_end`;
 // the next command stands at `place`, and `left` commands are counted that have not been treated.
-#[derive(Clone, Copy)]
+#[derive(Clone, Copy, PartialEq, Eq, Debug)]
 pub struct State {
     pub endian: Endianness,
     pub filetype: u32,
@@ -16,6 +20,26 @@ pub struct State {
     pub table_end: u64,
     pub over: bool,
     pub symtab: Option<SymtabCommand>,
+}
+
+impl State {
+    // A source, in the byte order of its header.
+    pub(crate) fn fields<S>(self, source: &S) -> Fields<S>
+        ensures source { result.source.now ≡ source.now }
+        ensures endian { result.endian ≡ self.endian }
+    {
+        Fields {
+            source,
+            endian: self.endian,
+        }
+    }
+
+    // The walk come to its end.
+    pub(crate) fn ended(self) -> State
+        ensures { result ≡ ended self }
+    {
+        State { over: true, ..self }
+    }
 }
 
 // What one step did: listed a segment, noted where the symbols are, passed another command, or came
@@ -29,17 +53,13 @@ pub enum StepAnswer {
     Broken,
 }
 
-// What a step comes to.
-#[derive(Clone, Copy)]
-pub enum Next {
-    Nothing,
-    Damage,
-    Command(LoadCommand),
-}
+// The next command cannot stand.
+#[derive(Clone, Copy, PartialEq, Eq, Debug)]
+pub struct Damage;
 
 // A segment that may be listed: its sections, where the search for their offsets begins, and
 // whether a true sum of them reaches 2^64.
-#[derive(Clone, Copy)]
+#[derive(Clone, Copy, PartialEq, Eq, Debug)]
 pub struct SegmentPlan {
     pub table: SectionTable,
     pub offsets: SectionOffsets,
@@ -47,15 +67,14 @@ pub struct SegmentPlan {
 }
 
 // What a command asks for.
-#[derive(Clone, Copy)]
+#[derive(Clone, Copy, PartialEq, Eq, Debug)]
 pub enum Deed {
     List(SegmentPlan),
     Remember(SymtabCommand),
-    Pass,
 }
 
 // How far the object map has come: how many symbols are passed, and the cursor after them.
-#[derive(Clone, Copy)]
+#[derive(Clone, Copy, PartialEq, Eq, Debug)]
 pub struct MapState {
     pub passed: u32,
     pub cursor: MapCursor,

@@ -1,12 +1,15 @@
-// What the next command is, and what it asks for. Nothing here changes anything.
-ghost use Rattle.std.specs.Prelude.{◌≡◌, ◌+◌, ◌≤◌, length};
-ghost use Rattle.reader.specs.Commands.{Inside, next_of, read_only_in, plan_of, symtab_of, deed_of};
+// What the next command is, what it asks for, and what comes of it.
+ghost use Rattle.std.specs.Prelude.{◌≡◌, ◌+◌, ◌^◌, ◌<◌, ◌≤◌, length, MatchOption, MatchResult, Ok, Err, Some, None};
+ghost use Rattle.list.specs.Contents.{contents_of};
+ghost use Rattle.reader.specs.Walks.{left_by, taken_of};
+ghost use Rattle.reader.specs.Commands.{next_of, read_only_in, plan_of, symtab_of, deed_of};
 
-use crate::state::{Deed, Next, SegmentPlan, State};
+use crate::lists::Listing;
+use crate::state::{Damage, Deed, SegmentPlan, State, StepAnswer};
 use fields::load_command::{LoadCommand, SymtabCommand};
+use fields::number::Fields;
 use fields::segment::Segment;
 use fields::width::Width;
-use sections::listing::check_sections;
 use sections::offset::SectionOffsets;
 use sections::record::SectionTable;
 use source::refusal::{Reason, Refusal};
@@ -24,126 +27,155 @@ pub const VM_PROT_WRITE: u32 = 0x2;
 
 pub const SG_READ_ONLY: u32 = 0x10;
 
-// The command that a step comes to.
-pub(crate) fn next_command<S: Source>(s: &S, state: State) -> Next
-    ensures value { result ≡ next_of (S.Source.bytes s.now) state }
-    ensures inside { Inside (S.Source.bytes s.now) state result }
-{
-    if state.over {
-        return Next::Nothing;
-    }
-    if state.table_end > s.len() {
-        return Next::Damage;
-    }
-    if state.left == 0 {
-        return Next::Nothing;
-    }
-    let rest = state.table_end.saturating_sub(state.place);
-    if rest < 8 {
-        return Next::Damage;
-    }
-    let Some(command) = LoadCommand::read(s, state.place, state.endian) else {
-        return Next::Damage;
-    };
-    if command.cmdsize < 8 || u64::from(command.cmdsize) > rest {
-        return Next::Damage;
-    }
-    Next::Command(command)
-}
-
-// What a segment says of writing; in an object file, nothing.
-fn read_only(state: State, segment: Segment) -> Option<bool>
-    ensures { result ≡ read_only_in state.filetype segment }
-{
-    if state.filetype == MH_OBJECT {
-        return None;
-    }
-    if segment.initprot & VM_PROT_WRITE == 0 {
-        return Some(true);
-    }
-    Some(segment.flags & SG_READ_ONLY != 0)
-}
-
-// The segment of a native segment command, with its sections seen to end inside it.
-fn plan_segment<S: Source, W: Width>(
-    s: &S,
+// The command that a step comes to, where it stands: it lies inside the source, and is counted.
+#[derive(Drop)]
+pub(crate) struct NextCommand<'a, S: Source> {
+    source: &'a S,
     state: State,
     command: LoadCommand,
-) -> Result<SegmentPlan, Refusal>
-    requires { state.place + command.cmdsize ≤ length (S.Source.bytes s.now) }
-    ensures { result ≡ plan_of W.Width.wide (S.Source.bytes s.now) state command }
-{
-    let size = W::either(56, 72);
-    let cmdsize = u64::from(command.cmdsize);
-    if cmdsize < size {
-        return Err(Reason::ShortCommand.at(state.place));
+    ghost ends_inside: { state.place + command.cmdsize ≤ length (S.Source.bytes source.now) },
+    ghost has_end: { state.place + command.cmdsize < 2 ^ 64 },
+    ghost counted: { 1 ≤ state.left },
+}
+
+impl State {
+    // The command that a step comes to, if any is left.
+    #[tactic(auto, unfolding(crate::specs::Commands::next_of))]
+    pub(crate) fn next_command<S: Source>(
+        self,
+        source: &S,
+    ) -> Result<Option<NextCommand<S>>, Damage>
+        ensures { MatchResult result (λ o. MatchOption o (next_of (S.Source.bytes source.now) self ≡ Ok None) (λ c. (next_of (S.Source.bytes source.now) self ≡ Ok (Some c.command)) × (c.state ≡ self) × (c.source.now ≡ source.now))) (λ e. next_of (S.Source.bytes source.now) self ≡ Err e) }
+    {
+        if self.over {
+            return Ok(None);
+        }
+        if self.table_end > source.len() {
+            return Err(Damage);
+        }
+        if self.left == 0 {
+            return Ok(None);
+        }
+        let rest = self.table_end.saturating_sub(self.place);
+        if rest < 8 {
+            return Err(Damage);
+        }
+        let command = LoadCommand::read(self.fields(source), self.place).ok_or(Damage)?;
+        if command.cmdsize < 8 || u64::from(command.cmdsize) > rest {
+            return Err(Damage);
+        }
+        Ok(Some(NextCommand {
+            source,
+            state: self,
+            command,
+        }))
     }
-    let Some(segment) = Segment::read::<S, W>(s, state.place, state.endian) else {
-        return Err(Reason::ShortCommand.at(state.place));
-    };
-    if u64::from(segment.nsects) * W::either(68, 80) > cmdsize - size {
-        return Err(Reason::SectionsPastCommand.at(state.place));
+
+    // What a segment says of writing; in an object file, nothing.
+    fn read_only(self, segment: Segment) -> Option<bool>
+        ensures { result ≡ read_only_in self.filetype segment }
+    {
+        if self.filetype == MH_OBJECT {
+            return None;
+        }
+        let written = segment.initprot & VM_PROT_WRITE != 0;
+        Some(!written || segment.flags & SG_READ_ONLY != 0)
     }
-    let table = SectionTable {
-        command: state.place,
-        place: state.place + size,
-        count: segment.nsects,
-        endian: state.endian,
-        read_only: read_only(state, segment),
-    };
-    let offsets = SectionOffsets::new(segment.fileoff, segment.filesize);
-    match check_sections::<S, W>(s, table, offsets) {
-        Ok(after) => Ok(SegmentPlan {
+}
+
+impl<'a, S: Source> NextCommand<'a, S> {
+    // Does what it asks for, and gives the state past it. Refused, it changes nothing.
+    pub(crate) fn take<W: Width>(
+        &self,
+        listing: &mut Listing,
+    ) -> Result<(StepAnswer, State), Refusal>
+        ensures { left_by result self.now.state listing.new ≡ taken_of W.Width.wide (S.Source.bytes self.now.source.now) self.now.state self.now.command (contents_of listing.old.segments) (contents_of listing.old.sections) }
+    {
+        let mut past = State {
+            place: self.state.place + u64::from(self.command.cmdsize),
+            left: self.state.left - 1,
+            ..self.state
+        };
+        let answer = match self.deed::<W>()? {
+            Some(Deed::List(plan)) => listing.add::<S, W>(self.source, plan)?,
+            Some(Deed::Remember(symtab)) => {
+                past.symtab = Some(symtab);
+                StepAnswer::Symbols
+            }
+            None => StepAnswer::Passed,
+        };
+        Ok((answer, past))
+    }
+
+    // What it asks for, if anything.
+    #[tactic(auto, unfolding(crate::specs::Commands::deed_of))]
+    fn deed<W: Width>(&self) -> Result<Option<Deed>, Refusal>
+        ensures { result ≡ deed_of W.Width.wide (S.Source.bytes self.now.source.now) self.now.state self.now.command }
+    {
+        if self.command.cmd == W::either(LC_SEGMENT, LC_SEGMENT_64) {
+            Ok(Some(Deed::List(self.segment_plan::<W>()?)))
+        } else if self.command.cmd == LC_SYMTAB {
+            Ok(Some(Deed::Remember(self.symtab::<W>()?)))
+        } else {
+            Ok(None)
+        }
+    }
+
+    // The source, in the byte order of its header.
+    fn fields(&self) -> Fields<S>
+        ensures source { result.source.now ≡ self.now.source.now }
+        ensures endian { result.endian ≡ self.now.state.endian }
+    {
+        self.state.fields(self.source)
+    }
+
+    // The segment of a native segment command, with its sections seen to end inside it.
+    #[tactic(auto, unfolding(crate::specs::Commands::plan_of))]
+    fn segment_plan<W: Width>(&self) -> Result<SegmentPlan, Refusal>
+        ensures { result ≡ plan_of W.Width.wide (S.Source.bytes self.now.source.now) self.now.state self.now.command }
+    {
+        let place = self.state.place;
+        let short = Reason::ShortCommand.at(place);
+        let size = W::either(56, 72);
+        let cmdsize = u64::from(self.command.cmdsize);
+        if cmdsize < size {
+            return Err(short);
+        }
+        let segment = Segment::read::<S, W>(self.fields(), place).ok_or(short)?;
+        if u64::from(segment.nsects) * W::either(68, 80) > cmdsize - size {
+            return Err(Reason::SectionsPastCommand.at(place));
+        }
+        let table = SectionTable {
+            command: place,
+            place: place + size,
+            count: segment.nsects,
+            endian: self.state.endian,
+            read_only: self.state.read_only(segment),
+        };
+        let offsets = SectionOffsets::new(segment.fileoff, segment.filesize);
+        let after = table.check_sections::<S, W>(self.source, offsets)?;
+        Ok(SegmentPlan {
             table,
             offsets,
             wrapped: after.wrapped(),
-        }),
-        Err(e) => Err(e),
+        })
     }
-}
 
-// Where a symtab command says that the symbols are.
-fn read_symtab<S: Source, W: Width>(
-    s: &S,
-    state: State,
-    command: LoadCommand,
-) -> Result<SymtabCommand, Refusal>
-    requires { state.place + command.cmdsize ≤ length (S.Source.bytes s.now) }
-    ensures { result ≡ symtab_of W.Width.wide (S.Source.bytes s.now) state command }
-{
-    if command.cmdsize < 24 {
-        return Err(Reason::ShortCommand.at(state.place));
-    }
-    let Some(symtab) = SymtabCommand::read(s, state.place, state.endian) else {
-        return Err(Reason::ShortCommand.at(state.place));
-    };
-    let end = u64::from(symtab.symoff) + u64::from(symtab.nsyms) * W::either(12, 16);
-    if end > s.len() {
-        return Err(Reason::SymbolsPastSource.at(state.place));
-    }
-    Ok(symtab)
-}
-
-// What a command asks for.
-pub(crate) fn treat<S: Source, W: Width>(
-    s: &S,
-    state: State,
-    command: LoadCommand,
-) -> Result<Deed, Refusal>
-    requires { state.place + command.cmdsize ≤ length (S.Source.bytes s.now) }
-    ensures { result ≡ deed_of W.Width.wide (S.Source.bytes s.now) state command }
-{
-    if command.cmd == W::either(LC_SEGMENT, LC_SEGMENT_64) {
-        match plan_segment::<S, W>(s, state, command) {
-            Ok(plan) => Ok(Deed::List(plan)),
-            Err(e) => Err(e),
+    // Where a symtab command says that the symbols are.
+    #[tactic(auto, unfolding(crate::specs::Commands::symtab_of))]
+    fn symtab<W: Width>(&self) -> Result<SymtabCommand, Refusal>
+        ensures { result ≡ symtab_of W.Width.wide (S.Source.bytes self.now.source.now) self.now.state self.now.command }
+    {
+        let place = self.state.place;
+        let short = Reason::ShortCommand.at(place);
+        if self.command.cmdsize < 24 {
+            return Err(short);
         }
-    } else if command.cmd == LC_SYMTAB {
-        match read_symtab::<S, W>(s, state, command) {
-            Ok(symtab) => Ok(Deed::Remember(symtab)),
-            Err(e) => Err(e),
+        let symtab = SymtabCommand::read(self.fields(), place).ok_or(short)?;
+        let end = u64::from(symtab.symoff) + u64::from(symtab.nsyms) * W::either(12, 16);
+        if end > self.source.len() {
+            return Err(Reason::SymbolsPastSource.at(place));
         }
-    } else {
-        Ok(Deed::Pass)
+        Ok(symtab)
     }
 }

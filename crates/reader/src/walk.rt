@@ -3,23 +3,16 @@ ghost use Rattle.std.specs.Prelude.{◌≡◌, true, false, Ok, Err};
 ghost use Rattle.source.specs.declared.refusal.Reason.TheVariants.{FinishTooEarly};
 ghost use Rattle.source.specs.Refusals.{refusal};
 ghost use Rattle.list.specs.Contents.{contents_of};
-ghost use Rattle.reader.specs.declared.state.Next.TheVariants.{Command};
-ghost use Rattle.reader.specs.Commands.{Inside};
 ghost use Rattle.reader.specs.Layouts.{NextSegmentIsListedAsItsOnlyLayout};
 ghost use Rattle.reader.specs.Maps.{map_begun};
-ghost use Rattle.reader.specs.Walks.{opened, step_of, list_answer, listed_segments, listed_sections, taken_of};
+ghost use Rattle.reader.specs.Walks.{opened, step_left, step_of};
 
+use crate::lists::Listing;
 use crate::reading::Reading;
-use crate::state::{Deed, MapState, Next, SegmentPlan, State, StepAnswer};
-use crate::treat::{next_command, treat};
-use fields::endian::Endianness;
+use crate::state::{Damage, MapState, State, StepAnswer};
 use fields::header::{MachHeader, endian_of};
-use fields::load_command::LoadCommand;
-use fields::number::u32_at;
+use fields::number::Fields;
 use fields::width::Width;
-use list::list::List;
-use sections::listing::list_sections;
-use sections::record::{SectionRecord, SegmentRecord};
 use source::refusal::{Reason, Refusal};
 use source::source::Source;
 use stabs::cursor::MapCursor;
@@ -33,20 +26,17 @@ pub struct Walk<S, W> {
 }
 
 // The state at the first command.
-fn opened_state<S: Source, W: Width>(s: &S) -> Result<State, Refusal>
-    ensures { result ≡ opened W.Width.wide (S.Source.bytes s.now) }
+fn opened_state<S: Source, W: Width>(source: &S) -> Result<State, Refusal>
+    ensures { result ≡ opened W.Width.wide (S.Source.bytes source.now) }
 {
     let size = W::either(28, 32);
-    if s.len() < size {
+    if source.len() < size {
         return Err(Reason::ShortHeader.at(0));
     }
-    let magic = u32_at(s, 0, Endianness::Big).unwrap_or(0);
-    let Some(endian) = endian_of::<W>(magic) else {
-        return Err(Reason::WrongMagic.at(0));
-    };
-    let Some(header) = MachHeader::read::<S, W>(s, endian) else {
-        return Err(Reason::ShortHeader.at(0));
-    };
+    let magic = Fields::big_endian(source).u32_at(0).unwrap_or(0);
+    let endian = endian_of::<W>(magic).ok_or(Reason::WrongMagic.at(0))?;
+    let fields = Fields { source, endian };
+    let header = MachHeader::read::<S, W>(fields).ok_or(Reason::ShortHeader.at(0))?;
     Ok(State {
         endian,
         filetype: header.filetype,
@@ -63,6 +53,7 @@ fn opened_state<S: Source, W: Width>(s: &S) -> Result<State, Refusal>
 pub fn open<S: Source, W: Width + Drop>(source: S, width: W) -> Result<Walk<S, W>, (Refusal, S)>
     ensures { elim result [ Ok w ↦ (Ok w.state ≡ opened W.Width.wide (S.Source.bytes source)) × (w.source ≡ source) | Err e ↦ (Err e.0 ≡ opened W.Width.wide (S.Source.bytes source)) × (e.1 ≡ source) ] }
 {
+    // The source goes into either answer, which two closures could not share.
     match opened_state::<S, W>(&source) {
         Ok(state) => Ok(Walk {
             source,
@@ -73,121 +64,42 @@ pub fn open<S: Source, W: Width + Drop>(source: S, width: W) -> Result<Walk<S, W
     }
 }
 
-// Lists a segment and its sections, or, where a list lacks room, nothing.
-fn list_segment<S: Source, W: Width>(
-    s: &S,
-    plan: SegmentPlan,
-    segments: &mut List<SegmentRecord>,
-    sections: &mut List<SectionRecord>,
-) -> Result<StepAnswer, Refusal>
-    ensures answer { result ≡ list_answer plan (contents_of segments.old) (contents_of sections.old) }
-    ensures segments { contents_of segments.new ≡ listed_segments plan (contents_of segments.old) (contents_of sections.old) }
-    ensures sections { contents_of sections.new ≡ listed_sections W.Width.wide (S.Source.bytes s.now) plan (contents_of segments.old) (contents_of sections.old) }
-    ensures segments_owner { segments.new.slots.ghost_name ≡ segments.old.slots.ghost_name }
-    ensures sections_owner { sections.new.slots.ghost_name ≡ sections.old.slots.ghost_name }
-{
-    let table = plan.table;
-    let free = sections.free();
-    if segments.free() == 0 || free < table.count as usize {
-        return Err(Reason::ListFull.at(table.command));
-    }
-    // With no section to list, the count may stand at its limit, and no number is needed.
-    let first = (sections.count() as u64).saturating_add(1);
-    let record = SegmentRecord {
-        place: table.command,
-        first,
-        count: table.count,
-        wrapped: plan.wrapped,
-    };
-    list_sections::<S, W>(s, table, plan.offsets, sections);
-    segments.push(record, table.command)?;
-    Ok(StepAnswer::Segment)
-}
-
 impl<S: Source, W: Width> Walk<S, W> {
     // Treats one command. Refused, nothing changes, and the same step gives the same refusal again.
-    pub fn step(
-        &mut self,
-        segments: &mut List<SegmentRecord>,
-        sections: &mut List<SectionRecord>,
-    ) -> Result<StepAnswer, Refusal>
-        ensures answer { result ≡ (step_of W.Width.wide (S.Source.bytes self.old.source) self.old.state (contents_of segments.old) (contents_of sections.old)).answer }
+    pub fn step(&mut self, listing: &mut Listing) -> Result<StepAnswer, Refusal>
+        ensures step { step_left result self.new.state listing.new ≡ step_of W.Width.wide (S.Source.bytes self.old.source) self.old.state (contents_of listing.old.segments) (contents_of listing.old.sections) }
         ensures source { self.new.source ≡ self.old.source }
-        ensures state { self.new.state ≡ (step_of W.Width.wide (S.Source.bytes self.old.source) self.old.state (contents_of segments.old) (contents_of sections.old)).state }
-        ensures segments { contents_of segments.new ≡ (step_of W.Width.wide (S.Source.bytes self.old.source) self.old.state (contents_of segments.old) (contents_of sections.old)).segments }
-        ensures sections { contents_of sections.new ≡ (step_of W.Width.wide (S.Source.bytes self.old.source) self.old.state (contents_of segments.old) (contents_of sections.old)).sections }
-        ensures segments_owner { segments.new.slots.ghost_name ≡ segments.old.slots.ghost_name }
-        ensures sections_owner { sections.new.slots.ghost_name ≡ sections.old.slots.ghost_name }
-        ensures layout { NextSegmentIsListedAsItsOnlyLayout W.Width.wide (S.Source.bytes self.old.source) self.old.state (contents_of segments.old) (contents_of sections.old) }
+        ensures layout { NextSegmentIsListedAsItsOnlyLayout W.Width.wide (S.Source.bytes self.old.source) self.old.state (contents_of listing.old.segments) (contents_of listing.old.sections) }
     {
-        match next_command(&self.source, self.state) {
-            Next::Nothing => {
-                self.state.over = true;
-                Ok(StepAnswer::End)
-            }
-            Next::Damage => {
-                self.state.over = true;
-                Ok(StepAnswer::Broken)
-            }
-            Next::Command(command) => self.take(command, segments, sections),
-        }
-    }
-
-    // Does what a command asks for, and moves on to the next.
-    fn take(
-        &mut self,
-        command: LoadCommand,
-        segments: &mut List<SegmentRecord>,
-        sections: &mut List<SectionRecord>,
-    ) -> Result<StepAnswer, Refusal>
-        requires { Inside (S.Source.bytes self.old.source) self.old.state (Command command) }
-        ensures answer { result ≡ (taken_of W.Width.wide (S.Source.bytes self.old.source) self.old.state command (contents_of segments.old) (contents_of sections.old)).answer }
-        ensures source { self.new.source ≡ self.old.source }
-        ensures state { self.new.state ≡ (taken_of W.Width.wide (S.Source.bytes self.old.source) self.old.state command (contents_of segments.old) (contents_of sections.old)).state }
-        ensures segments { contents_of segments.new ≡ (taken_of W.Width.wide (S.Source.bytes self.old.source) self.old.state command (contents_of segments.old) (contents_of sections.old)).segments }
-        ensures sections { contents_of sections.new ≡ (taken_of W.Width.wide (S.Source.bytes self.old.source) self.old.state command (contents_of segments.old) (contents_of sections.old)).sections }
-        ensures segments_owner { segments.new.slots.ghost_name ≡ segments.old.slots.ghost_name }
-        ensures sections_owner { sections.new.slots.ghost_name ≡ sections.old.slots.ghost_name }
-    {
-        let place = self.state.place;
-        let left = self.state.left;
-        let (answer, symtab) = match treat::<S, W>(&self.source, self.state, command) {
-            Ok(Deed::List(plan)) => (
-                list_segment::<S, W>(&self.source, plan, segments, sections),
-                self.state.symtab,
-            ),
-            Ok(Deed::Remember(symtab)) => (Ok(StepAnswer::Symbols), Some(symtab)),
-            Ok(Deed::Pass) => (Ok(StepAnswer::Passed), self.state.symtab),
-            Err(e) => (Err(e), self.state.symtab),
+        let (answer, state) = match self.state.next_command(&self.source) {
+            Ok(Some(command)) => command.take::<W>(listing)?,
+            Ok(None) => (StepAnswer::End, self.state.ended()),
+            Err(Damage) => (StepAnswer::Broken, self.state.ended()),
         };
-        if answer.is_ok() {
-            self.state.place = place + u64::from(command.cmdsize);
-            self.state.left = left - 1;
-            self.state.symtab = symtab;
-        }
-        answer
+        self.state = state;
+        Ok(answer)
     }
 
     // The reading of a walk that has come to the end, or to damage. Any other walk is handed back.
     pub fn finish(self) -> Result<Reading<S, W>, (Refusal, Walk<S, W>)>
         ensures { elim result [ Ok f ↦ (self.state.over ≡ true) × (f.source ≡ self.source) × (f.state ≡ self.state) × (f.map ≡ map_begun) | Err e ↦ (self.state.over ≡ false) × (e.0 ≡ refusal FinishTooEarly self.state.place) × (e.1 ≡ self) ] }
     {
-        if self.state.over {
-            let Walk {
-                source,
-                width,
-                state,
-            } = self;
-            let cursor = MapCursor::new();
-            Ok(Reading {
-                source,
-                width,
-                state,
-                map: MapState { passed: 0, cursor },
-            })
-        } else {
-            let place = self.state.place;
-            Err((Reason::FinishTooEarly.at(place), self))
+        if !self.state.over {
+            return Err((Reason::FinishTooEarly.at(self.state.place), self));
         }
+        let Walk {
+            source,
+            width,
+            state,
+        } = self;
+        Ok(Reading {
+            source,
+            width,
+            state,
+            map: MapState {
+                passed: 0,
+                cursor: MapCursor::new(),
+            },
+        })
     }
 }

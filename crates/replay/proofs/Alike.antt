@@ -1,22 +1,27 @@
 -- What is made of lists that are alike is alike. Assumes nothing.
-use Rattle.std.proofs.Common.{◌≡◌, ℕ, zero, suc, ◌+◌, ◌-◌, ◌<◌, Bool, true, false, cond, ltb, List as Row, [], ◌∷◌, ◌++◌, length, take, None, Ok, Err, Result, sym, refl, ap, ◌∙◌, subst, arith, length-set}
+use Rattle.std.proofs.Common.{◌≡◌, ℕ, zero, suc, ◌+◌, ◌<◌, Bool, true, false, cond, ltb, List as Row, [], ◌∷◌, ◌++◌, length, take, Some, None, Option, sym, refl, ap, ◌∙◌, subst, arith, length-set}
 use Rattle.std.proofs.lemmas.List.{take_more_set}
 use Rattle.std.proofs.lemmas.Bool.{ltb-true}
 use Rattle.std.specs.List.{slice_get}
-use Rattle.source.specs.declared.refusal.Reason.TheVariants.{ListFull}
-use Rattle.source.specs.declared.refusal.Refusal.{Refusal}
-use Rattle.source.specs.Refusals.{refusal}
 use Rattle.list.specs.Contents.{Contents, free, has_room, added, pushed, push_answer, got}
+use Rattle.fields.specs.declared.section.Section.{Section}
+use Rattle.sections.specs.Listings.{given_section}
 use Rattle.replay.specs.Alike.{Alike}
 
 -- two choices by the same test
 pub cond_related : {A : Type 0} (R : A → A → Type 0) (p q : Bool) (x y x' y' : A) → p ≡ q → (p ≡ true → R x x') → (p ≡ false → R y y') → R (cond p x y) (cond q x' y')
 cond_related R true true x y x' y' e f g = f refl
 cond_related R false false x y x' y' e f g = g refl
-cond_related R true false x y x' y' e f g = absurd (let z : ◌≡◌ {A = ℕ} 0 1 = cc in omega arith)
-cond_related R false true x y x' y' e f g = absurd (let z : ◌≡◌ {A = ℕ} 0 1 = cc in omega arith)
+cond_related R true false x y x' y' e f g = cc
+cond_related R false true x y x' y' e f g = cc
 
-nth_take : {X : Type 0} (xs : Row X) (n i : ℕ) → i < n → slice_get (take n xs) i ≡ slice_get xs i
+-- and two choices by whether there is a section
+pub given_related : {A : Type 0} (R : A → A → Type 0) (o : Option Section) (x x' : A) (f f' : Section → A) → R x x' → ((s : Section) → R (f s) (f' s)) →
+    R (given_section o x f) (given_section o x' f')
+given_related R None x x' f f' h k = h
+given_related R (Some s) x x' f f' h k = k s
+
+pub nth_take : {X : Type 0} (xs : Row X) (n i : ℕ) → i < n → slice_get (take n xs) i ≡ slice_get xs i
 nth_take xs zero i h = absurd (omega arith)
 nth_take [] (suc n) i h = refl
 nth_take (x ∷ xs) (suc n) zero h = refl
@@ -33,13 +38,13 @@ module _ {X : Type 0} where
 
   module _ {a b : Contents X} (h : Alike a b) where
     pub alike_free : free a ≡ free b
-    alike_free = ap (λ n. n - a.count) h.capacity ∙ ap (λ n. length b.slots - n) h.count
+    alike_free = rw (h.capacity, h.count) refl
 
     pub alike_room : has_room a ≡ has_room b
-    alike_room = ap (λ n. ltb n (length a.slots)) h.count ∙ ap (ltb b.count) h.capacity
+    alike_room = rw (h.capacity, h.count) refl
 
     pub alike_push_answer : (place : ℕ) → push_answer a place ≡ push_answer b place
-    alike_push_answer place = ap (λ (r : Bool). cond {A = Result Unit Refusal} r (Ok tt) (Err (refusal ListFull place))) alike_room
+    alike_push_answer place = rw alike_room refl
 
     pub alike_got : (i : ℕ) → got a i ≡ got b i
     alike_got i =

@@ -11,12 +11,11 @@ use Rattle.sections.specs.declared.offset.SectionOffsets.{SectionOffsets}
 use Rattle.sections.specs.declared.record.SectionRecord.{SectionRecord}
 use Rattle.sections.specs.declared.record.SectionTable.{SectionTable}
 use Rattle.sections.specs.declared.record.SegmentRecord.{SegmentRecord}
-use Rattle.sections.specs.Listings.{given_section, record_of, filled}
+use Rattle.sections.specs.Listings.{record_of, filled}
 use Rattle.sections.specs.Offsets.{next_start, next_offsets}
 use Rattle.reader.specs.declared.state.Deed.{Deed}
-use Rattle.reader.specs.declared.state.Deed.TheVariants.{List as ListIt, Remember, Pass}
-use Rattle.reader.specs.declared.state.Next.{Next}
-use Rattle.reader.specs.declared.state.Next.TheVariants.{Nothing, Damage, Command}
+use Rattle.reader.specs.declared.state.Deed.TheVariants.{List as ListIt, Remember}
+use Rattle.reader.specs.declared.state.Damage.{Damage}
 use Rattle.reader.specs.declared.state.SegmentPlan.{SegmentPlan}
 use Rattle.reader.specs.declared.state.State.{State}
 use Rattle.reader.specs.declared.state.StepAnswer.{StepAnswer}
@@ -26,12 +25,7 @@ use Rattle.reader.specs.Readings.{known_or, section_of, find_in}
 use Rattle.reader.specs.Walks.{lacks_room, list_answer, segment_record, listed_segments, listed_sections, moved, moved_if, done_by, stepped_by, step_of}
 use Rattle.replay.specs.Alike.{Alike}
 use Rattle.replay.specs.AlikeCalls.{StepAlike, LookUpsAlike}
-use Rattle.replay.proofs.Alike.{cond_related, alike_free, alike_got, alike_pushed_both}
-
-given_related : {A : Type 0} (R : A → A → Type 0) (o : Option Section) (x x' : A) (f f' : Section → A) → R x x' → ((s : Section) → R (f s) (f' s)) →
-    R (given_section o x f) (given_section o x' f')
-given_related R None x x' f f' h k = h
-given_related R (Some s) x x' f f' h k = k s
+use Rattle.replay.proofs.Alike.{cond_related, given_related, alike_free, alike_got, alike_pushed_both}
 
 pub alike_filled : (wide : Bool) (xs : Row ℕ) (t : SectionTable) (n place : ℕ) (c : SectionOffsets) (a b : Contents SectionRecord) →
     Alike a b → Alike (filled wide xs t n place c a) (filled wide xs t n place c b)
@@ -66,37 +60,25 @@ module _ (wide : Bool) (xs : Row ℕ) (w : State) {a b : Contents SegmentRecord}
       cond_related Alike (lacks_room p a l) (lacks_room p b m) l _ m _ (lacks_alike p)
       (λ e. k) (λ e. alike_filled wide xs p.table p.table.count p.table.place p.offsets l m k)
 
-  pub done_alike : (c : LoadCommand) (d : Result Deed Refusal) → StepAlike (done_by wide xs w c a l d) (done_by wide xs w c b m d)
-  done_alike c (Ok (ListIt p)) =
+  done_alike : (c : LoadCommand) (d : Result (Option Deed) Refusal) → StepAlike (done_by wide xs w c a l d) (done_by wide xs w c b m d)
+  done_alike c (Ok (Some (ListIt p))) =
       record {
         answer = same_list_answer p;
         state = ap (λ r. moved_if r w (moved w c w.symtab)) (same_list_answer p);
         segments = same_listed_segments p;
         sections = same_listed_sections p;
       }
-  done_alike c (Ok (Remember t)) = record { answer = refl; state = refl; segments = h; sections = k }
-  done_alike c (Ok Pass) = record { answer = refl; state = refl; segments = h; sections = k }
+  done_alike c (Ok (Some (Remember t))) = record { answer = refl; state = refl; segments = h; sections = k }
+  done_alike c (Ok None) = record { answer = refl; state = refl; segments = h; sections = k }
   done_alike c (Err e) = record { answer = refl; state = refl; segments = h; sections = k }
 
-  pub stepped_alike : (n : Next) → StepAlike (stepped_by wide xs w a l n) (stepped_by wide xs w b m n)
-  stepped_alike Nothing = record { answer = refl; state = refl; segments = h; sections = k }
-  stepped_alike Damage = record { answer = refl; state = refl; segments = h; sections = k }
-  stepped_alike (Command c) = done_alike c (deed_of wide xs w c)
+  stepped_alike : (n : Result (Option LoadCommand) Damage) → StepAlike (stepped_by wide xs w a l n) (stepped_by wide xs w b m n)
+  stepped_alike (Ok None) = record { answer = refl; state = refl; segments = h; sections = k }
+  stepped_alike (Err d) = record { answer = refl; state = refl; segments = h; sections = k }
+  stepped_alike (Ok (Some c)) = done_alike c (deed_of wide xs w c)
 
   pub step_alike : StepAlike (step_of wide xs w a l) (step_of wide xs w b m)
   step_alike = stepped_alike (next_of xs w)
-
-  pub step_answer : (step_of wide xs w a l).answer ≡ (step_of wide xs w b m).answer
-  step_answer = step_alike.answer
-
-  pub step_state : (step_of wide xs w a l).state ≡ (step_of wide xs w b m).state
-  step_state = step_alike.state
-
-  pub step_segments : Alike (step_of wide xs w a l).segments (step_of wide xs w b m).segments
-  step_segments = step_alike.segments
-
-  pub step_sections : Alike (step_of wide xs w a l).sections (step_of wide xs w b m).sections
-  step_sections = step_alike.sections
 
 module _ {l m : Contents SectionRecord} (k : Alike l m) where
   pub section_alike : (n : ℕ) → section_of l n ≡ section_of m n

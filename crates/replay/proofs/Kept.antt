@@ -1,6 +1,7 @@
 -- Every step keeps the segments, the sections and the symbol table right. Assumes nothing.
-use Rattle.std.proofs.Common.{◌≡◌, ℕ, ◌+◌, ◌-◌, ◌*◌, ◌^◌, ◌<◌, ◌≤◌, min, Bool, true, false, cond, eqb, ltb, leb, List as Row, [], ◌∷◌, ◌++◌, length, Some, None, Ok, Err, Option, Result, sym, refl, ap, ◌∙◌, subst, inl, inr, arith}
-use Rattle.std.proofs.lemmas.Bool.{cond_both, cases_lt, and_parts, or_parts, eqb-true, eqb-false, ltb-false, leb-true}
+use Rattle.std.proofs.Common.{◌≡◌, ℕ, ◌+◌, ◌-◌, ◌*◌, ◌^◌, ◌<◌, ◌≤◌, min, Bool, true, false, cond, eqb, ltb, leb, List as Row, [], ◌∷◌, ◌++◌, length, Some, None, Ok, Err, Option, Result, sym, refl, ap, ◌∙◌, subst, arith}
+use Rattle.std.proofs.Math.Nat.{add-zero, pos_of_ne-zero}
+use Rattle.std.proofs.lemmas.Bool.{cond_both, and_parts, or_parts, eqb-true, eqb-false, ltb-false, leb-true}
 use Rattle.source.specs.declared.refusal.Reason.TheVariants.{ShortHeader, ListFull}
 use Rattle.source.specs.declared.refusal.Refusal.{Refusal}
 use Rattle.source.specs.Refusals.{refusal}
@@ -20,8 +21,7 @@ use Rattle.sections.specs.Listings.{checked, filled}
 use Rattle.sections.specs.Offsets.{begun}
 use Rattle.sections.proofs.Layouts.{rows_from, filled-rows}
 use Rattle.reader.specs.declared.state.Deed.{Deed}
-use Rattle.reader.specs.declared.state.Deed.TheVariants.{Pass}
-use Rattle.reader.specs.declared.state.Next.{Next}
+use Rattle.reader.specs.declared.state.Damage.{Damage}
 use Rattle.reader.specs.declared.state.SegmentPlan.{SegmentPlan}
 use Rattle.reader.specs.declared.state.State.{State}
 use Rattle.reader.specs.declared.state.StepAnswer.TheVariants.{Segment}
@@ -60,8 +60,8 @@ kept_right wide xs e segments_before sections_before k w segments sections h =
 
 -- a walk that is opened is at the first command
 open_at : (wide : Bool) (xs : Row ℕ) (w : State) (b : Bool) (o : Option Endianness) (r : Refusal) → Ok w ≡ cond b (Err r) (opened_as wide xs o) → (e : Endianness) × (w ≡ at_start wide xs e)
-open_at wide xs w true o r h = absurd (let z : ◌≡◌ {A = ℕ} 0 1 = cc in omega arith)
-open_at wide xs w false None r h = absurd (let z : ◌≡◌ {A = ℕ} 0 1 = cc in omega arith)
+open_at wide xs w true o r h = cc
+open_at wide xs w false None r h = cc
 open_at wide xs w false (Some e) r h = (e, cc)
 
 pub opened_kept : (wide : Bool) (xs : Row ℕ) (w : State) (segments : Contents SegmentRecord) (sections : Contents SectionRecord) →
@@ -78,16 +78,13 @@ opened_kept wide xs w segments sections o a b =
       left = omega arith;
       passed = none_yet;
       symtab = no_command;
-      symbols_inside = λ t z. absurd (let z : ◌≡◌ {A = ℕ} 0 1 = cc in omega arith);
+      symbols_inside = λ t z. cc;
       segments_grown = grown_none segments a;
       sections_grown = grown_none sections b;
     })
 
-above_none : (n : ℕ) → (n ≡ 0 → ⊥) → 1 ≤ n
-above_none n h = elim (cases_lt 0 n) [ inl a ↦ omega arith | inr a ↦ absurd (h (omega arith)) ]
-
 below_free : {X : Type 0} (l : Contents X) → (free l ≡ 0 → ⊥) → l.count < length l.slots
-below_free l h = let a = above_none (free l) h in omega arith
+below_free l h = let a = pos_of_ne-zero h in omega arith
 
 not_symtab : (wide : Bool) (n : ℕ) → n ≡ segment_command wide → n ≡ 0x2 → ⊥
 not_symtab true n a b = omega arith
@@ -103,10 +100,9 @@ module _ (wide : Bool) (xs : Row ℕ) (segments_before : Contents SegmentRecord)
   module _ (h : Kept wide xs e segments_before sections_before k w segments sections) where
     -- where no command is passed, all is as it was
     not_passed : (over : Bool) →
-        Kept wide xs e segments_before sections_before (k + 0) (record { endian = w.endian; filetype = w.filetype; place = w.place; left = w.left; table_end = w.table_end; over = over; symtab = w.symtab }) segments sections
+        Kept wide xs e segments_before sections_before (k + 0) (record w { over = over }) segments sections
     not_passed over =
-        let same : k + 0 ≡ k = omega arith in
-        rw same (record {
+        rw add-zero (record {
           endian = h.endian;
           filetype = h.filetype;
           table = h.table;
@@ -126,7 +122,7 @@ module _ (wide : Bool) (xs : Row ℕ) (segments_before : Contents SegmentRecord)
       left_one = let a = h.left in omega arith
 
       -- past a command that is neither a native segment nor LC_SYMTAB
-      passed_other : (c.cmd ≡ segment_command wide → ⊥) → (c.cmd ≡ 0x2 → ⊥) → After (done_by wide xs w c segments sections (Ok Pass))
+      passed_other : (c.cmd ≡ segment_command wide → ⊥) → (c.cmd ≡ 0x2 → ⊥) → After (done_by wide xs w c segments sections (Ok None))
       passed_other a b =
           record {
             endian = refl;
@@ -189,7 +185,7 @@ module _ (wide : Bool) (xs : Row ℕ) (segments_before : Contents SegmentRecord)
 
             segment_is : (m : ℕ) → m ≡ sections.count → SegmentIs wide xs e w.place m (segment_record plan sections) (rows m)
             segment_is m same =
-                let says = ap (λ f. (table_of wide (record { endian = w.endian; filetype = f; place = w.place; left = w.left; table_end = w.table_end; over = w.over; symtab = w.symtab }) x).read_only) h.filetype in
+                let says = ap (λ f. (table_of wide (record w { filetype = f }) x).read_only) h.filetype in
                 let r = rows_right wide xs t w.place says n q o after m inside found in
                 record {
                   whole = whole;
@@ -259,7 +255,7 @@ module _ (wide : Bool) (xs : Row ℕ) (segments_before : Contents SegmentRecord)
       passed_command : After (done_by wide xs w c segments sections (deed_of wide xs w c))
       unfolding deed_of
       passed_command =
-          let Done : Result Deed Refusal → Type 0 = λ d. After (done_by wide xs w c segments sections d) in
+          let Done : Result (Option Deed) Refusal → Type 0 = λ d. After (done_by wide xs w c segments sections d) in
           cond_both (eqb c.cmd (segment_command wide)) _ _ Done (λ is. passed_segment (eqb-true _ _ is))
           (λ not. cond_both (eqb c.cmd 0x2) _ _ Done
           (λ is. passed_symtab (eqb-false _ _ not) (eqb-true _ _ is))
@@ -268,7 +264,7 @@ module _ (wide : Bool) (xs : Row ℕ) (segments_before : Contents SegmentRecord)
     after_next : After (step_of wide xs w segments sections)
     unfolding next_of
     after_next =
-        let Done : Next → Type 0 = λ m. After (stepped_by wide xs w segments sections m) in
+        let Done : Result (Option LoadCommand) Damage → Type 0 = λ m. After (stepped_by wide xs w segments sections m) in
         cond_both w.over _ _ Done (λ over. not_passed true)
         (λ on. cond_both (ltb (length xs) w.table_end) _ _ Done (λ past. not_passed true)
         (λ table. cond_both (eqb w.left 0) _ _ Done (λ no. not_passed true)
@@ -277,7 +273,7 @@ module _ (wide : Bool) (xs : Row ℕ) (segments_before : Contents SegmentRecord)
         (λ stand.
         let both = and_parts (leb 8 c.cmdsize) (leb c.cmdsize (rest w)) stand in
         let a : w.table_end ≤ length xs = ltb-false _ _ table in
-        let some_left : 1 ≤ w.left = above_none w.left (eqb-false w.left 0 some) in
+        let some_left : 1 ≤ w.left = pos_of_ne-zero (eqb-false w.left 0 some) in
         let b : 8 ≤ rest w = ltb-false (rest w) 8 eight in
         let d : 8 ≤ c.cmdsize = leb-true 8 c.cmdsize both.0 in
         let f : c.cmdsize ≤ rest w = leb-true c.cmdsize (rest w) both.1 in

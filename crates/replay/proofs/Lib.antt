@@ -6,5 +6,4 @@ pub mod Maps
 pub mod Rows
 pub mod Slots
 pub mod Sources
-pub mod Turns
 pub mod Unique

@@ -1,8 +1,8 @@
 -- The records that are listed of a segment's sections are those that the format gives. Assumes nothing.
-use Rattle.std.proofs.Common.{◌≡◌, ℕ, zero, suc, ◌+◌, ◌*◌, ◌^◌, ◌≤◌, Bool, true, false, ◌||◌, leb, List, ◌∷◌, length, Some, Ok, Err, Option, Result, unwrap_or, sym, refl, ap, ◌∙◌, subst, inl, inr, suc-mul, arith}
+use Rattle.std.proofs.Common.{◌≡◌, ℕ, zero, suc, ◌+◌, ◌*◌, ◌^◌, ◌≤◌, Bool, false, ◌||◌, leb, List, ◌∷◌, length, Some, Ok, Err, Option, unwrap_or, sym, refl, ap, ◌∙◌, subst, inl, inr, suc-mul, arith}
+use Rattle.std.proofs.Math.Bool.{or_assoc, or-false}
 use Rattle.std.proofs.lemmas.Bool.{cases_Bool, cases_lt, and_cases, and_parts}
 use Rattle.source.specs.declared.refusal.Reason.TheVariants.{SectionsPastCommand, SectionPastSegment}
-use Rattle.source.specs.declared.refusal.Refusal.{Refusal}
 use Rattle.source.specs.Refusals.{refusal}
 use Rattle.fields.specs.declared.section.Section.{Section as Fields}
 use Rattle.fields.specs.Names.{name_at}
@@ -12,7 +12,7 @@ use Rattle.sections.specs.declared.record.SectionRecord.{SectionRecord}
 use Rattle.sections.specs.declared.record.SectionTable.{SectionTable}
 use Rattle.sections.specs.Kinds.{kind_of}
 use Rattle.sections.specs.Listings.{given_section, given_start, read_only_of, record_of, checked}
-use Rattle.sections.specs.Offsets.{least_from, placed as is_placed, start_at, end_at, onward, next_start, next_offsets}
+use Rattle.sections.specs.Offsets.{beyond_4gib, least_from, placed as is_placed, start_at, end_at, onward, next_start, next_offsets}
 use Rattle.sections.proofs.Layouts.{section_is, rows_from}
 use Rattle.sections.proofs.Offsets.{least_is, at_stored, at_past, at-placed}
 use Rattle.reader.specs.Commands.{read_only_in}
@@ -20,17 +20,6 @@ use Rattle.replay.specs.Segments.{Least, SectionIs, Sections, none, stored, plac
 
 least_of : (before low : ℕ) → Least before low (least_from before low)
 least_of x low = let l = least_is x low in record { above = l.0; same_low = l.2; least = λ m a b. omega arith }
-
-or_assoc : (a b c : Bool) → ((a || b) || c) ≡ (a || (b || c))
-or_assoc true b c = refl
-or_assoc false b c = refl
-
-or_none : (a : Bool) → a ≡ (a || false)
-or_none true = refl
-or_none false = refl
-
-never_ok : {X : Type 0} (r : Result X Refusal) (e : Refusal) (x : X) → r ≡ Err e → r ≡ Ok x → ⊥
-never_ok r e x p q = let z : ◌≡◌ {A = ℕ} 0 1 = cc in omega arith
 
 module _ (wide : Bool) (xs : List ℕ) (t : SectionTable) where
   abbrev at : ℕ → Fields
@@ -55,7 +44,7 @@ module _ (wide : Bool) (xs : List ℕ) (t : SectionTable) where
 
   module _ (p : ℕ) (says : t.read_only ≡ read_only_in (header xs t.endian).filetype (segment_at wide xs t.endian p)) where
     abbrev Listed : SectionOffsets → ℕ → ℕ → List SectionRecord → Bool → Type 0
-    Listed o q m = Sections wide xs t.endian p o.segment_end o.beyond_4gib q (m + 1) o.previous_end
+    Listed o q m = Sections wide xs t.endian p o.segment_end (beyond_4gib o) q (m + 1) o.previous_end
 
     -- the sections after a cursor, and what it says in the end of true sums
     pub record Right (o : SectionOffsets) (q m : ℕ) (rows : List SectionRecord) (after : SectionOffsets) : Type 0 where
@@ -69,13 +58,13 @@ module _ (wide : Bool) (xs : List ℕ) (t : SectionTable) where
 
     pub rows_right : (n q : ℕ) (o after : SectionOffsets) (m : ℕ) → q + n * section_size wide ≤ length xs → checked wide xs t n q o ≡ Ok after →
         Right o q m (rows_from wide xs t n q o m) after
-    rows_right zero q o after m h e = record { reached = false; listed = none; wrapped = ap (λ k. k.wrapped) (let same : after ≡ o = cc in same) ∙ or_none o.wrapped }
+    rows_right zero q o after m h e = record { reached = false; listed = none; wrapped = ap (λ k. k.wrapped) (let same : after ≡ o = cc in same) ∙ sym (or-false o.wrapped) }
     rows_right (suc n) q o after m h e =
         let k = one_less n q h in
         let rows_by : Option ℕ → SectionOffsets → List SectionRecord = λ s c. record_of xs t q (at q) (m + 1) (unwrap_or s 0) ∷ rows_from wide xs t n (next q) c (m + 1) in
         elim (cases_Bool (is_placed o (at q))) [
           | inl b ↦ elim (cases_lt o.segment_end (end_at o (at q))) [
-            | inl past ↦ absurd (never_ok _ _ _ (checked_by n q o _ k.0 (at_past o (at q) b past)) e)
+            | inl past ↦ (let never = checked_by n q o _ k.0 (at_past o (at q) b past) in cc)
             | inr inside ↦
                 let s = at-placed o (at q) b inside in
                 let r = rows_right n (next q) (onward o (at q)) after (m + 1) k.1

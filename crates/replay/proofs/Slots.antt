@@ -1,21 +1,21 @@
 -- The slots that a list does not use stay as they were, and the numbers of a list's sections are their places.
 -- Assumes nothing.
-use Rattle.std.proofs.Common.{◌≡◌, ℕ, zero, suc, ◌+◌, ◌<◌, ◌≤◌, min, Bool, ltb, List as Row, [], ◌∷◌, ◌++◌, length, take, drop, Some, None, Option, unwrap_or, sym, refl, ap, ◌∙◌, subst, arith, length-set, length-take}
-use Rattle.std.proofs.lemmas.List.{drop-drop, drop-set-lt, take_more_set}
+use Rattle.std.proofs.Common.{◌≡◌, ℕ, zero, suc, ◌+◌, ◌<◌, ◌≤◌, Bool, ltb, List as Row, [], ◌∷◌, ◌++◌, length, drop, Some, None, unwrap_or, sym, refl, ap, ◌∙◌, subst, arith, length-set}
+use Rattle.std.proofs.lemmas.List.{length-take-le, drop-drop, drop-set-lt, take_more_set}
 use Rattle.std.proofs.lemmas.Bool.{cond_both, cond-true, lt-ltb, ltb-true}
 use Rattle.std.specs.List.{slice_get}
 use Rattle.list.specs.Contents.{Contents, got, records, has_room, added, pushed}
 use Rattle.fields.specs.declared.endian.Endianness.{Endianness}
-use Rattle.fields.specs.declared.section.Section.{Section}
 use Rattle.fields.specs.Records.{section_at, section_size}
 use Rattle.sections.specs.declared.offset.SectionOffsets.{SectionOffsets}
 use Rattle.sections.specs.declared.record.SectionRecord.{SectionRecord}
 use Rattle.sections.specs.declared.record.SectionTable.{SectionTable}
 use Rattle.sections.specs.declared.record.SegmentRecord.{SegmentRecord}
-use Rattle.sections.specs.Listings.{given_section, record_of, filled}
+use Rattle.sections.specs.Listings.{record_of, filled}
 use Rattle.sections.specs.Offsets.{next_start, next_offsets}
 use Rattle.replay.specs.Segments.{Sections, none, stored, placed, Passed, start, other_command, native_segment}
 use Rattle.replay.specs.Rest.{RestKept}
+use Rattle.replay.proofs.Alike.{given_related, nth_take}
 
 -- a list that has grown from another in its slots
 pub record Grown {X : Type 0} (before now : Contents X) : Type 0 where
@@ -23,12 +23,13 @@ pub record Grown {X : Type 0} (before now : Contents X) : Type 0 where
   pub kept : RestKept before now
 
 pub grown_none : {X : Type 0} (l : Contents X) → l.count ≡ 0 → Grown l l
-grown_none l e = record { fits = omega arith; kept = record { same_size = refl; same_rest = refl } }
+grown_none l e = record { fits = omega arith; kept = record { same_slice = refl; same_size = refl; same_rest = refl } }
 
 -- a record more takes the first slot that is not in use, and leaves the rest
 pub rest-added : {X : Type 0} (before l : Contents X) (x : X) → RestKept before l → RestKept before (added l x)
 rest-added before l x h =
     record {
+      same_slice = h.same_slice;
       same_size = length-set l.slots l.count x ∙ h.same_size;
       same_rest =
           drop-set-lt (l.count + 1) l.slots l.count x (omega arith)
@@ -47,17 +48,13 @@ pub records-pushed : {X : Type 0} (l : Contents X) (x : X) → l.count < length 
 records-pushed l x h = ap records (cond-true (has_room l) (added l x) l (lt-ltb _ _ h)) ∙ take_more_set l.slots l.count x h
 
 pub records-length : {X : Type 0} (l : Contents X) → l.count ≤ length l.slots → length (records l) ≡ l.count
-records-length l h = length-take l.count l.slots ∙ (let e : min l.count (length l.slots) ≡ l.count = omega arith in e)
-
-given_both : {X : Type 0} (P : X → Type 0) (o : Option Section) (other : X) (f : Section → X) → P other → ((y : Section) → P (f y)) → P (given_section o other f)
-given_both P None other f a b = a
-given_both P (Some y) other f a b = b y
+records-length l h = length-take-le l.count l.slots h
 
 pub grown_filled : (wide : Bool) (xs : Row ℕ) (t : SectionTable) (before : Contents SectionRecord) (n q : ℕ) (o : SectionOffsets) (l : Contents SectionRecord) →
     Grown before l → Grown before (filled wide xs t n q o l)
 grown_filled wide xs t before zero q o l g = g
 grown_filled wide xs t before (suc n) q o l g =
-    given_both (Grown before) (section_at wide xs q t.endian) l _ g
+    given_related (λ a b. Grown before a) (section_at wide xs q t.endian) l l _ (λ y. l) g
     (λ y. grown_filled wide xs t before n (q + section_size wide) (next_offsets o y) (pushed l (record_of xs t q y (l.count + 1) (unwrap_or (next_start o y) 0))) (grown_pushed before l _ g))
 
 -- the numbers of a list of sections go up from one past m
@@ -72,15 +69,9 @@ numbered_append m (r ∷ a) b (h, hs) k =
     (h, numbered_append (m + 1) a b hs (subst (λ z. Numbered z b) e k))
 
 numbered_at : (m : ℕ) (l : Row SectionRecord) (i : ℕ) (r : SectionRecord) → Numbered m l → slice_get l i ≡ Some r → r.number ≡ m + i + 1
-numbered_at m [] i r h e = absurd (let z : ◌≡◌ {A = ℕ} 0 1 = cc in omega arith)
-numbered_at m (x ∷ l) zero r (h, hs) e = let same : x ≡ r = cc in let n = ap (λ z. z.number) same in omega arith
+numbered_at m [] i r h e = cc
+numbered_at m (x ∷ l) zero r (h, hs) e = let same : x.number ≡ r.number = cc in omega arith
 numbered_at m (x ∷ l) (suc i) r (h, hs) e = let n = numbered_at (m + 1) l i r hs e in omega arith
-
-nth_take : {X : Type 0} (l : Row X) (n i : ℕ) → i < n → slice_get (take n l) i ≡ slice_get l i
-nth_take l zero i h = absurd (omega arith)
-nth_take [] (suc n) i h = refl
-nth_take (x ∷ l) (suc n) zero h = refl
-nth_take (x ∷ l) (suc n) (suc i) h = nth_take l n i (omega arith)
 
 module _ (wide : Bool) (xs : Row ℕ) (e : Endianness) where
   numbered_rows : (p stop : ℕ) (beyond : Bool) (rows : Row SectionRecord) (q m n before : ℕ) (reached : Bool) → n ≡ m + 1 →
@@ -104,4 +95,4 @@ module _ (wide : Bool) (xs : Row ℕ) (e : Endianness) where
   numbered_got k p ss l h i r =
       cond_both (ltb i l.count) (slice_get l.slots i) None (λ z. z ≡ Some r → r.number ≡ i + 1)
       (λ a b. let n = numbered_at 0 (records l) i r (numbered_passed k p ss (records l) h) (nth_take l.slots l.count i (ltb-true _ _ a) ∙ b) in omega arith)
-      (λ a b. absurd (let z : ◌≡◌ {A = ℕ} 0 1 = cc in omega arith))
+      (λ a b. cc)

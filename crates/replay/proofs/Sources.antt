@@ -3,16 +3,14 @@ use Rattle.std.proofs.Common.{◌≡◌, ℕ, ◌-◌, Bool, true, false, cond, 
 use Rattle.source.specs.declared.refusal.Reason.TheVariants.{ListFull}
 use Rattle.source.specs.declared.refusal.Refusal.{Refusal}
 use Rattle.source.specs.Refusals.{refusal}
-use Rattle.source.specs.Bytes.{run}
 use Rattle.list.specs.Contents.{Contents}
 use Rattle.fields.specs.declared.load_command.SymtabCommand.{SymtabCommand}
 use Rattle.fields.specs.declared.symbol.Nlist.{Nlist}
 use Rattle.sections.specs.declared.record.SectionRecord.{SectionRecord}
 use Rattle.stabs.specs.declared.cursor.Addition.{Addition}
-use Rattle.stabs.specs.declared.cursor.Addition.TheVariants.{Nothing, File, Entry}
+use Rattle.stabs.specs.declared.cursor.Addition.TheVariants.{File, Entry}
 use Rattle.stabs.specs.declared.map.MapEntry.{MapEntry}
 use Rattle.stabs.specs.declared.map.MapFile.{MapFile}
-use Rattle.stabs.specs.Cursors.{told, left}
 use Rattle.symbols.specs.declared.symbol.SymbolSection.{SymbolSection}
 use Rattle.symbols.specs.declared.symbol.SymbolSection.TheVariants.{Unknown, Undefined, Absolute, Common, Section as InSection}
 use Rattle.symbols.specs.Symbols.{symbol_of, record_for, kind_by, is_stab, address_of, section_for, scope_of, is_weak}
@@ -20,15 +18,15 @@ use Rattle.reader.specs.declared.state.MapAnswer.TheVariants.{Passed}
 use Rattle.reader.specs.declared.state.MapState.{MapState}
 use Rattle.reader.specs.declared.state.State.{State}
 use Rattle.reader.specs.declared.table.TableSymbol.{TableSymbol}
-use Rattle.reader.specs.Maps.{map_begun, file_of, stab_for, MapStep as Outcome, map_by, add_answer, add_file, add_entry, room_for, passed_if}
+use Rattle.reader.specs.Maps.{map_begun, told_if, left_if, file_of, stab_for, MapStep as Outcome, map_by, add_answer, add_file, add_entry, room_for, passed_if}
 use Rattle.reader.specs.Tables.{symbol_at, symbol_by}
 use Rattle.reader.specs.Walks.{opened}
-use Rattle.replay.specs.declared.calls.Answer.TheVariants.{Found}
+use Rattle.replay.specs.declared.calls.Answer.TheVariants.{Stepped, Listed, Found, Known, Mapped}
 use Rattle.replay.specs.declared.calls.Call.{Call}
 use Rattle.replay.specs.declared.calls.Call.TheVariants.{Step, Finish, Section, Find, Symbol, Name, MapStep}
 use Rattle.replay.specs.Alike.{Alike}
 use Rattle.replay.specs.Law.{Empty, SameCapacities, SameRecords, RunsAgree, begun_at, lists_by, answers_by}
-use Rattle.replay.specs.Runs.{Lists, Run, stepped_told, listed_told, known_told, mapped_told, answer_in, next_in, answer_of, next_of, answers_of, final_of}
+use Rattle.replay.specs.Runs.{Lists, Run, answered, answer_in, next_in, answer_of, next_of, answers_of, final_of}
 use Rattle.replay.proofs.Alike.{alike_empty, alike_room, alike_got, alike_pushed}
 use Rattle.replay.proofs.AlikeCalls.{step_alike, section_alike, find_alike}
 
@@ -57,33 +55,33 @@ record MapAlike (x y : Outcome) : Type 0 where
   entries : Alike x.entries y.entries
 
 module _ (xs : Row ℕ) (s : MapState) {a b : Contents MapFile} {l m : Contents MapEntry} (h : Alike a b) (k : Alike l m) where
-  room_alike : (x : Addition) → room_for x a l ≡ room_for x b m
-  room_alike Nothing = refl
-  room_alike (File name) = alike_room h
-  room_alike (Entry y) = alike_room k
+  room_alike : (x : Option Addition) → room_for x a l ≡ room_for x b m
+  room_alike None = refl
+  room_alike (Some (File name)) = alike_room h
+  room_alike (Some (Entry y)) = alike_room k
 
-  answer_alike : (x : Addition) (p : ℕ) → add_answer x p a l ≡ add_answer x p b m
+  answer_alike : (x : Option Addition) (p : ℕ) → add_answer x p a l ≡ add_answer x p b m
   answer_alike x p = ap (λ r. cond r (Ok Passed) (Err (refusal ListFull p))) (room_alike x)
 
-  file_alike : (x : Addition) → Alike (add_file xs x a) (add_file xs x b)
-  file_alike Nothing = h
-  file_alike (File name) = alike_pushed h (file_of xs name)
-  file_alike (Entry y) = h
+  file_alike : (x : Option Addition) → Alike (add_file xs x a) (add_file xs x b)
+  file_alike None = h
+  file_alike (Some (File name)) = alike_pushed h (file_of xs name)
+  file_alike (Some (Entry y)) = h
 
-  entry_alike : (x : Addition) → Alike (add_entry x l) (add_entry x m)
-  entry_alike Nothing = k
-  entry_alike (File name) = k
-  entry_alike (Entry y) = alike_pushed k y
+  entry_alike : (x : Option Addition) → Alike (add_entry x l) (add_entry x m)
+  entry_alike None = k
+  entry_alike (Some (File name)) = k
+  entry_alike (Some (Entry y)) = alike_pushed k y
 
   map_alike : (o : Option TableSymbol) → MapAlike (map_by xs s a l o) (map_by xs s b m o)
   map_alike None = record { answer = refl; state = refl; files = h; entries = k }
   map_alike (Some x) =
-      let t = told s.cursor (stab_for xs x) in
+      let t = told_if s.cursor (stab_for xs x) in
       let same = answer_alike t x.place in
       record {
         answer = same;
-        state = ap (λ r. passed_if r s (left s.cursor (stab_for xs x) a.count)) same
-            ∙ ap (λ n. passed_if (add_answer t x.place b m) s (left s.cursor (stab_for xs x) n)) h.count;
+        state = ap (λ r. passed_if r s (left_if s.cursor (stab_for xs x) a.count)) same
+            ∙ ap (λ n. passed_if (add_answer t x.place b m) s (left_if s.cursor (stab_for xs x) n)) h.count;
         files = file_alike t;
         entries = entry_alike t;
       }
@@ -101,23 +99,23 @@ record RunAlike (r q : Run) : Type 0 where
   map : r.map ≡ q.map
   lists : ListsAlike r.lists q.lists
 
-module _ (wide : Bool) (xs text : Row ℕ) where
+module _ (wide : Bool) (xs : Row ℕ) where
   module _ (w : State) (s : MapState) (l m : Lists) (h : ListsAlike l m) where
-    told_alike : (c : Call) (d : Bool) → answer_in wide xs text c d w s l ≡ answer_in wide xs text c d w s m
-    told_alike Step false = ap stepped_told (step_alike wide xs w h.segments h.sections).answer
+    told_alike : (c : Call) (d : Bool) → answer_in wide xs c d w s l ≡ answer_in wide xs c d w s m
+    told_alike Step false = ap (answered Stepped) (step_alike wide xs w h.segments h.sections).answer
     told_alike Step true = refl
     told_alike Finish false = refl
     told_alike Finish true = refl
     told_alike (Section n) false = refl
-    told_alike (Section n) true = ap listed_told (section_alike h.sections n)
+    told_alike (Section n) true = ap (answered Listed) (section_alike h.sections n)
     told_alike (Find q) false = refl
-    told_alike (Find q) true = ap Found (find_alike h.sections xs (run q.start q.len text))
+    told_alike (Find q) true = ap Found (find_alike h.sections xs q.now)
     told_alike (Symbol n) false = refl
-    told_alike (Symbol n) true = ap known_told (numbered_alike xs h.sections n (symbol_at wide xs w n))
+    told_alike (Symbol n) true = ap (answered Known) (numbered_alike xs h.sections n (symbol_at wide xs w n))
     told_alike (Name n) false = refl
     told_alike (Name n) true = refl
     told_alike MapStep false = refl
-    told_alike MapStep true = ap mapped_told (map_alike xs s h.files h.entries (symbol_at wide xs w s.passed)).answer
+    told_alike MapStep true = ap (answered Mapped) (map_alike xs s h.files h.entries (symbol_at wide xs w s.passed)).answer
 
     -- a call that changes nothing
     same : (d : Bool) (v : MapState) → RunAlike (record { done = d; state = w; map = v; lists = l }) (record { done = d; state = w; map = v; lists = m })
@@ -139,25 +137,18 @@ module _ (wide : Bool) (xs text : Row ℕ) where
         let r = map_alike xs s h.files h.entries (symbol_at wide xs w s.passed) in
         record { done = refl; state = refl; map = r.state; lists = record { segments = h.segments; sections = h.sections; files = r.files; entries = r.entries } }
 
-  answer_of_alike : (c : Call) (r q : Run) → RunAlike r q → answer_of wide xs text c r ≡ answer_of wide xs text c q
-  answer_of_alike c r q h =
-      told_alike r.state r.map r.lists q.lists h.lists c r.done
-      ∙ ap (λ d. answer_in wide xs text c d r.state r.map q.lists) h.done
-      ∙ ap (λ w. answer_in wide xs text c q.done w r.map q.lists) h.state
-      ∙ ap (λ s. answer_in wide xs text c q.done q.state s q.lists) h.map
+  answer_of_alike : (c : Call) (r q : Run) → RunAlike r q → answer_of wide xs c r ≡ answer_of wide xs c q
+  answer_of_alike c r q h = rw (h.done, h.state, h.map) (told_alike q.state q.map r.lists q.lists h.lists c q.done)
 
   next_of_alike : (c : Call) (r q : Run) → RunAlike r q → RunAlike (next_of wide xs c r) (next_of wide xs c q)
-  next_of_alike c r q h =
-      let here = next_alike r.state r.map r.lists q.lists h.lists c r.done in
-      subst (λ s. RunAlike (next_of wide xs c r) (next_in wide xs c q.done q.state s q.lists)) h.map
-      (subst (λ w. RunAlike (next_of wide xs c r) (next_in wide xs c q.done w r.map q.lists)) h.state
-      (subst (λ d. RunAlike (next_of wide xs c r) (next_in wide xs c d r.state r.map q.lists)) h.done here))
+  next_of_alike c r q h = rw (h.done, h.state, h.map) (next_alike q.state q.map r.lists q.lists h.lists c q.done)
 
-  answers_alike : (cs : Row Call) (r q : Run) → RunAlike r q → answers_of wide xs text cs r ≡ answers_of wide xs text cs q
+  answers_alike : (cs : Row Call) (r q : Run) → RunAlike r q → answers_of wide xs cs r ≡ answers_of wide xs cs q
   answers_alike [] r q h = refl
   answers_alike (c ∷ cs) r q h =
-      ap (λ a. a ∷ answers_of wide xs text cs (next_of wide xs c r)) (answer_of_alike c r q h)
-      ∙ ap (λ rest. answer_of wide xs text c q ∷ rest) (answers_alike cs (next_of wide xs c r) (next_of wide xs c q) (next_of_alike c r q h))
+      let here = answer_of_alike c r q h in
+      let on = answers_alike cs (next_of wide xs c r) (next_of wide xs c q) (next_of_alike c r q h) in
+      cc
 
   final_alike : (cs : Row Call) (r q : Run) → RunAlike r q → RunAlike (final_of wide xs cs r) (final_of wide xs cs q)
   final_alike [] r q h = h
@@ -167,7 +158,7 @@ module _ (wide : Bool) (xs text : Row ℕ) where
     begun_alike : (w : State) → RunAlike (begun_at w l) (begun_at w m)
     begun_alike w = record { done = refl; state = refl; map = refl; lists = h }
 
-    told_by : (cs : Row Call) (o : Result State Refusal) → answers_by wide xs text cs l o ≡ answers_by wide xs text cs m o
+    told_by : (cs : Row Call) (o : Result State Refusal) → answers_by wide xs cs l o ≡ answers_by wide xs cs m o
     told_by cs (Ok w) = answers_alike cs (begun_at w l) (begun_at w m) (begun_alike w)
     told_by cs (Err e) = refl
 
@@ -178,7 +169,7 @@ module _ (wide : Bool) (xs text : Row ℕ) where
   same_records : (l m : Lists) → ListsAlike l m → SameRecords l m
   same_records l m h = record { segments = h.segments.records; sections = h.sections.records; files = h.files.records; entries = h.entries.records }
 
-  same_bytes_agree : (calls : Row Call) (l m : Lists) → ListsAlike l m → RunsAgree wide xs xs text calls l m
+  same_bytes_agree : (calls : Row Call) (l m : Lists) → ListsAlike l m → RunsAgree wide xs xs calls l m
   same_bytes_agree calls l m h =
       record {
         open_agrees = refl;
@@ -195,7 +186,7 @@ empty_alike l m p q c =
       entries = alike_empty l.entries m.entries p.entries q.entries c.entries;
     }
 
-pub same_bytes_answer_alike : (wide : Bool) (xs ys text : Row ℕ) (calls : Row Call) (l m : Lists) →
-    xs ≡ ys → Empty l → Empty m → SameCapacities l m → RunsAgree wide xs ys text calls l m
-same_bytes_answer_alike wide xs ys text calls l m e p q c =
-    subst (λ zs. RunsAgree wide xs zs text calls l m) e (same_bytes_agree wide xs text calls l m (empty_alike l m p q c))
+pub same_bytes_answer_alike : (wide : Bool) (xs ys : Row ℕ) (calls : Row Call) (l m : Lists) →
+    xs ≡ ys → Empty l → Empty m → SameCapacities l m → RunsAgree wide xs ys calls l m
+same_bytes_answer_alike wide xs ys calls l m e p q c =
+    subst (λ zs. RunsAgree wide xs zs calls l m) e (same_bytes_agree wide xs calls l m (empty_alike l m p q c))

@@ -1,52 +1,45 @@
 -- The symbols determine the object map. Assumes nothing.
-use Rattle.std.proofs.Common.{◌≡◌, ℕ, ◌+◌, List, [], ◌∷◌, ◌++◌, Some, sym, refl, ap, ◌∙◌, subst, inl, inr, arith}
+use Rattle.std.proofs.Common.{◌≡◌, ℕ, List, [], ◌∷◌, ◌++◌, length, Some, Option, sym, refl, ap, ◌∙◌, subst, inl, inr, arith}
 use Rattle.std.proofs.lemmas.Bool.{cases_order}
 use Rattle.source.specs.declared.span.Span.{Span}
 use Rattle.stabs.specs.declared.map.MapEntry.{MapEntry}
 use Rattle.stabs.specs.declared.map.MapFile.{MapFile}
 use Rattle.stabs.specs.declared.stab.Stab.{Stab}
-use Rattle.stabs.specs.declared.stab.Stab.TheVariants.{Object, Opening, Closing, Static}
+use Rattle.stabs.specs.declared.stab.Stab.TheVariants.{Opening}
 use Rattle.list.specs.Contents.{records}
-use Rattle.stabs.specs.Cursors.{entry}
-use Rattle.replay.specs.Maps.{OpensFile, by_named, FilesBefore, none_before, as_before, one_more, Under, OpenAt, Makes, variable, function}
-use Rattle.replay.specs.Maps.{Entries, no_entries, same_entries, new_entry, Files, no_files, same_files, new_file}
+use Rattle.replay.specs.Maps.{Made, none_made, same_made, more_made, OpensFile, by_named, FilesBefore, Under, OpenAt, Makes, variable, function, MakesFile}
 use Rattle.replay.specs.Determined.{TheSymbolsDetermineTheMap}
 
-same_name : (s : Stab) (a b : Span) → s ≡ Object (Some a) → s ≡ Object (Some b) → a ≡ b
-same_name s a b p q = cc
+-- where a symbol makes one thing at most, two lists of what the same symbols make are the same
+module _ {X : Type 0} (makes : ℕ → X → Type 0) (one : (k : ℕ) (x y : X) → makes k x → makes k y → x ≡ y) where
+  made_same : (i j : ℕ) (xs ys : List X) → i ≡ j → Made makes i xs → Made makes j ys → xs ≡ ys
+  made_same _ _ _ _ e none_made none_made = refl
+  made_same _ _ _ _ e none_made (same_made q y) = absurd (omega arith)
+  made_same _ _ _ _ e none_made (more_made q y) = absurd (omega arith)
+  made_same _ _ _ _ e (same_made p x) none_made = absurd (omega arith)
+  made_same _ _ _ _ e (same_made {k} {xs} p x) (same_made {k = l} {xs = ys} q y) = made_same k l xs ys (omega arith) p q
+  made_same _ _ _ _ e (same_made {k} p x) (more_made {k = l} {x = b} q y) = let h : l ≡ k = omega arith in absurd (x b (subst (λ t. makes t b) h y))
+  made_same _ _ _ _ e (more_made p x) none_made = absurd (omega arith)
+  made_same _ _ _ _ e (more_made {k} {x = a} p x) (same_made {k = l} q y) = let h : k ≡ l = omega arith in absurd (y a (subst (λ t. makes t a) h x))
+  made_same _ _ _ _ e (more_made {k} {xs} {x = a} p x) (more_made {k = l} {xs = ys} {x = b} q y) =
+      let h : l ≡ k = omega arith in
+      ap (λ t. t ++ (a ∷ [])) (made_same k l xs ys (omega arith) p q) ∙ ap (λ t. ys ++ (t ∷ [])) (one k a b x (subst (λ t. makes t b) h y))
 
-same_function : (s : Stab) (a b : Span) (v w : ℕ) → s ≡ Opening a v → s ≡ Opening b w → (a ≡ b) × (v ≡ w)
-same_function s a b v w p q = (cc, cc)
+  made_once : (k : ℕ) (xs ys : List X) → Made makes k xs → Made makes k ys → xs ≡ ys
+  made_once k xs ys p q = made_same k k xs ys refl p q
 
-same_variable : (s : Stab) (a b : Span) (v w : ℕ) → s ≡ Static a v → s ≡ Static b w → (a ≡ b) × (v ≡ w)
-same_variable s a b v w p q = (cc, cc)
+module _ (stab_at : ℕ → Option Stab) where
+  opens_one : (k : ℕ) (a b : Span) → OpensFile stab_at k a → OpensFile stab_at k b → a ≡ b
+  opens_one k a b p q = cc
 
-same_size : (s : Stab) (v w : ℕ) → s ≡ Closing v → s ≡ Closing w → v ≡ w
-same_size s v w p q = cc
-
-never_both : (s : Stab) (a : Span) (v w : ℕ) → s ≡ Static a v → s ≡ Closing w → ⊥
-never_both s a v w p q = let z : ◌≡◌ {A = ℕ} 0 1 = cc in omega arith
-
-same_entry : (a a' z z' : ℕ) (n n' : Span) (f f' : ℕ) → a ≡ a' → z ≡ z' → n ≡ n' → f ≡ f' → entry a z n f ≡ entry a' z' n' f'
-same_entry a a' z z' n n' f f' p q r s = ap (λ i. entry i z n f) p ∙ ap (λ i. entry a' i n f) q ∙ ap (λ i. entry a' z' i f) r ∙ ap (entry a' z' n') s
-
-module _ (stab_at : ℕ → Stab) where
   -- two counts of the same symbols
-  counts : (i j m n : ℕ) → i ≡ j → FilesBefore stab_at i m → FilesBefore stab_at j n → m ≡ n
-  counts _ _ _ _ e none_before none_before = refl
-  counts _ _ _ _ e none_before (as_before q y) = absurd (omega arith)
-  counts _ _ _ _ e none_before (one_more q b y) = absurd (omega arith)
-  counts _ _ _ _ e (as_before p x) none_before = absurd (omega arith)
-  counts _ _ _ _ e (as_before {k} {n = m} p x) (as_before {k = l} {n} q y) = counts k l m n (omega arith) p q
-  counts _ _ _ _ e (as_before {k} {n = m} p x) (one_more {k = l} {n} q b y) = let h : l ≡ k = omega arith in absurd (x b (subst (λ t. OpensFile stab_at t b) h y))
-  counts _ _ _ _ e (one_more p a x) none_before = absurd (omega arith)
-  counts _ _ _ _ e (one_more {k} {n = m} p a x) (as_before {k = l} {n} q y) = let h : k ≡ l = omega arith in absurd (y a (subst (λ t. OpensFile stab_at t a) h x))
-  counts _ _ _ _ e (one_more {k} {n = m} p a x) (one_more {k = l} {n} q b y) = ap (λ t. t + 1) (counts k l m n (omega arith) p q)
+  counts_same : (k m n : ℕ) → FilesBefore stab_at k m → FilesBefore stab_at k n → m ≡ n
+  counts_same k m n (xs, p, e) (ys, q, f) = sym e ∙ ap length (made_once (OpensFile stab_at) opens_one k xs ys p q) ∙ f
 
   under_one : (k f g : ℕ) → Under stab_at k f → Under stab_at k g → f ≡ g
   under_one k f g u v =
       elim (cases_order u.opener v.opener) [
-        | inl e ↦ counts _ _ f g e u.numbered v.numbered
+        | inl e ↦ counts_same _ f g (subst (λ i. FilesBefore stab_at i f) e u.numbered) v.numbered
         | inr (inl h) ↦ absurd (u.last v.opener h v.before (by_named v.name v.opens))
         | inr (inr h) ↦ absurd (v.last u.opener h u.before (by_named u.name u.opens))
       ]
@@ -54,7 +47,7 @@ module _ (stab_at : ℕ → Stab) where
   open_one : (k i j : ℕ) (n n' : Span) (a a' : ℕ) → OpenAt stab_at i k n a → OpenAt stab_at j k n' a' → (n ≡ n') × (a ≡ a')
   open_one k i j n n' a a' u v =
       elim (cases_order i j) [
-        | inl e ↦ same_function (stab_at j) n n' a a' (ap stab_at (sym e) ∙ u.opens) v.opens
+        | inl e ↦ let u' : stab_at j ≡ Some (Opening n a) = ap stab_at (sym e) ∙ u.opens in let v' = v.opens in (cc, cc)
         | inr (inl h) ↦ absurd (u.no_opening j n' a' h v.before v.opens)
         | inr (inr h) ↦ absurd (v.no_opening i n a h u.before u.opens)
       ]
@@ -62,50 +55,24 @@ module _ (stab_at : ℕ → Stab) where
   -- a symbol makes one entry at most
   makes_one : (k : ℕ) (x y : MapEntry) → Makes stab_at k x → Makes stab_at k y → x ≡ y
   makes_one k x y (variable n a f p u) (variable n' a' f' p' u') =
-      let s = same_variable (stab_at k) n n' a a' p p' in same_entry a a' 0 0 n n' f f' s.1 refl s.0 (under_one k f f' u u')
-  makes_one k x y (variable n a f p u) (function j n' a' z f' o p' u') = absurd (never_both (stab_at k) n a z p p')
-  makes_one k x y (function j n a z f o p u) (variable n' a' f' p' u') = absurd (never_both (stab_at k) n' a' z p' p)
+      let s : n ≡ n' = cc in
+      let v : a ≡ a' = cc in
+      let w = under_one k f f' u u' in
+      cc
+  makes_one k x y (variable n a f p u) (function j n' a' z f' o p' u') = cc
+  makes_one k x y (function j n a z f o p u) (variable n' a' f' p' u') = cc
   makes_one k x y (function j n a z f o p u) (function j' n' a' z' f' o' p' u') =
       let s = open_one k j j' n n' a a' o o' in
-      same_entry a a' z z' n n' f f' s.1 (same_size (stab_at k) z z' p p') s.0 (under_one k f f' u u')
+      let v : z ≡ z' = cc in
+      let w = under_one k f f' u u' in
+      cc
 
-  entries_same : (i j : ℕ) (xs ys : List MapEntry) → i ≡ j → Entries stab_at i xs → Entries stab_at j ys → xs ≡ ys
-  entries_same _ _ _ _ e no_entries no_entries = refl
-  entries_same _ _ _ _ e no_entries (same_entries q y) = absurd (omega arith)
-  entries_same _ _ _ _ e no_entries (new_entry q y) = absurd (omega arith)
-  entries_same _ _ _ _ e (same_entries p x) no_entries = absurd (omega arith)
-  entries_same _ _ _ _ e (same_entries {k} {es = xs} p x) (same_entries {k = l} {es = ys} q y) = entries_same k l xs ys (omega arith) p q
-  entries_same _ _ _ _ e (same_entries {k} {es = xs} p x) (new_entry {k = l} {es = ys} {x = b} q y) = let h : l ≡ k = omega arith in absurd (x b (subst (λ t. Makes stab_at t b) h y))
-  entries_same _ _ _ _ e (new_entry p x) no_entries = absurd (omega arith)
-  entries_same _ _ _ _ e (new_entry {k} {es = xs} {x = a} p x) (same_entries {k = l} {es = ys} q y) = let h : k ≡ l = omega arith in absurd (y a (subst (λ t. Makes stab_at t a) h x))
-  entries_same _ _ _ _ e (new_entry {k} {es = xs} {x = a} p x) (new_entry {k = l} {es = ys} {x = b} q y) =
-      let h : l ≡ k = omega arith in
-      ap (λ t. t ++ (a ∷ [])) (entries_same k l xs ys (omega arith) p q) ∙ ap (λ t. ys ++ (t ∷ [])) (makes_one k a b x (subst (λ t. Makes stab_at t b) h y))
-
-  pub entries_determined : (k : ℕ) (xs ys : List MapEntry) → Entries stab_at k xs → Entries stab_at k ys → xs ≡ ys
-  entries_determined k xs ys p q = entries_same k k xs ys refl p q
-
-  module _ (file_for : Span → MapFile) where
-    files_same : (i j : ℕ) (xs ys : List MapFile) → i ≡ j → Files stab_at file_for i xs → Files stab_at file_for j ys → xs ≡ ys
-    files_same _ _ _ _ e no_files no_files = refl
-    files_same _ _ _ _ e no_files (same_files q y) = absurd (omega arith)
-    files_same _ _ _ _ e no_files (new_file q b y) = absurd (omega arith)
-    files_same _ _ _ _ e (same_files p x) no_files = absurd (omega arith)
-    files_same _ _ _ _ e (same_files {k} {fs = xs} p x) (same_files {k = l} {fs = ys} q y) = files_same k l xs ys (omega arith) p q
-    files_same _ _ _ _ e (same_files {k} {fs = xs} p x) (new_file {k = l} {fs = ys} q b y) = let h : l ≡ k = omega arith in absurd (x b (subst (λ t. OpensFile stab_at t b) h y))
-    files_same _ _ _ _ e (new_file p a x) no_files = absurd (omega arith)
-    files_same _ _ _ _ e (new_file {k} {fs = xs} p a x) (same_files {k = l} {fs = ys} q y) = let h : k ≡ l = omega arith in absurd (y a (subst (λ t. OpensFile stab_at t a) h x))
-    files_same _ _ _ _ e (new_file {k} {fs = xs} p a x) (new_file {k = l} {fs = ys} q b y) =
-        let h : l ≡ k = omega arith in
-        ap (λ t. t ++ (file_for a ∷ [])) (files_same k l xs ys (omega arith) p q)
-        ∙ ap (λ t. ys ++ (file_for t ∷ [])) (same_name (stab_at k) a b x (ap stab_at (sym h) ∙ y))
-
-    pub files_determined : (k : ℕ) (xs ys : List MapFile) → Files stab_at file_for k xs → Files stab_at file_for k ys → xs ≡ ys
-    files_determined k xs ys p q = files_same k k xs ys refl p q
+  makes_one_file : (file_for : Span → MapFile) (k : ℕ) (x y : MapFile) → MakesFile stab_at file_for k x → MakesFile stab_at file_for k y → x ≡ y
+  makes_one_file file_for k x y (a, p, e) (b, q, f) = e ∙ ap file_for (opens_one k a b p q) ∙ sym f
 
 pub symbols_determine_map : TheSymbolsDetermineTheMap
 symbols_determine_map stab_at file_for k f₀ f₀' fs fs' e₀ e₀' es es' p q =
     record {
-      files = files_determined stab_at file_for k (records fs) (records fs') p.files q.files;
-      entries = entries_determined stab_at k (records es) (records es') p.entries q.entries;
+      files = made_once (MakesFile stab_at file_for) (makes_one_file stab_at file_for) k (records fs) (records fs') p.files q.files;
+      entries = made_once (Makes stab_at) (makes_one stab_at) k (records es) (records es') p.entries q.entries;
     }

@@ -1,5 +1,5 @@
 -- The symbols that are passed determine the object map. Assumes nothing.
-use Rattle.std.specs.Prelude.{◌≡◌, ℕ}
+use Rattle.std.specs.Prelude.{◌≡◌, ℕ, Option}
 use Rattle.source.specs.declared.span.Span.{Span}
 use Rattle.list.specs.Contents.{Contents, records}
 use Rattle.stabs.specs.declared.map.MapEntry.{MapEntry}
@@ -14,5 +14,5 @@ pub record SameMap (fs : Contents MapFile) (es : Contents MapEntry) (fs' : Conte
 
 abbrev pub TheSymbolsDetermineTheMap : Type 0
 TheSymbolsDetermineTheMap =
-    (stab_at : ℕ → Stab) (file_for : Span → MapFile) (k : ℕ) (f₀ f₀' fs fs' : Contents MapFile) (e₀ e₀' es es' : Contents MapEntry) →
+    (stab_at : ℕ → Option Stab) (file_for : Span → MapFile) (k : ℕ) (f₀ f₀' fs fs' : Contents MapFile) (e₀ e₀' es es' : Contents MapEntry) →
     MapIsRight stab_at file_for k f₀ e₀ fs es → MapIsRight stab_at file_for k f₀' e₀' fs' es' → SameMap fs es fs' es'

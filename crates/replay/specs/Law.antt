@@ -1,5 +1,5 @@
 -- The law of all runs. A run opens a library and makes any calls, each on what the last left; xs are the bytes that
--- its source means, and text what its queries are runs of. Assumes nothing.
+-- its source means. Assumes nothing.
 use Rattle.std.specs.Prelude.{◌≡◌, ℕ, ◌+◌, Bool, false, List as Row, [], ◌∷◌, length, take, Some, None, Ok, Err, Option, Result}
 use Rattle.source.specs.declared.refusal.Refusal.{Refusal}
 use Rattle.list.specs.Contents.{records}
@@ -7,7 +7,6 @@ use Rattle.fields.specs.declared.endian.Endianness.{Endianness}
 use Rattle.fields.specs.declared.load_command.SymtabCommand.{SymtabCommand}
 use Rattle.fields.specs.Records.{nlist}
 use Rattle.stabs.specs.declared.stab.Stab.{Stab}
-use Rattle.stabs.specs.declared.stab.Stab.TheVariants.{Other}
 use Rattle.stabs.specs.Stabs.{stab_of}
 use Rattle.symbols.specs.Names.{name_span}
 use Rattle.reader.specs.declared.state.MapAnswer.{MapAnswer}
@@ -67,20 +66,20 @@ pub record Empty (l : Lists) : Type 0 where
   pub entries : l.entries.count ≡ 0
 
 module _ (wide : Bool) (xs : Row ℕ) where
-  -- what symbol k of a table means to the object map
-  abbrev pub stab_in : Endianness → Option SymtabCommand → ℕ → Stab
-  stab_in e None k = Other
+  -- what symbol k of a table means to the object map, if anything
+  abbrev pub stab_in : Endianness → Option SymtabCommand → ℕ → Option Stab
+  stab_in e None k = None
   stab_in e (Some t) k =
       let x = nlist wide xs (symbol_place wide t k) e in
       stab_of x.n_type (name_span xs t x.n_strx) x.n_value
 
-  module _ (text : Row ℕ) (before : Lists) (w : State) (calls : Row Call) where
+  module _ (before : Lists) (w : State) (calls : Row Call) where
     -- what the calls leave and answer, from a walk in this state
     abbrev pub run_left : Run
     run_left = final_of wide xs calls (begun_at w before)
 
     abbrev pub run_told : Row Answer
-    run_told = answers_of wide xs text calls (begun_at w before)
+    run_told = answers_of wide xs calls (begun_at w before)
 
     -- the segments and sections are those of the commands that were passed
     abbrev pub SectionsOfRun : Type 0
@@ -95,8 +94,13 @@ module _ (wide : Bool) (xs : Row ℕ) where
         before.files before.entries run_left.lists.files run_left.lists.entries
 
   -- after every call of every run on a library that opens, with lists that are empty at first
-  abbrev pub AfterEveryCall : (Row ℕ → Lists → State → Row Call → Type 0) → Row ℕ → Lists → Row Call → Type 0
-  AfterEveryCall Right text before calls = Empty before → (w : State) → Ok w ≡ opened wide xs → (n : ℕ) → Right text before w (take n calls)
+  abbrev pub AfterEveryCall : (Lists → State → Row Call → Type 0) → Lists → Row Call → Type 0
+  AfterEveryCall Right before calls = Empty before → (w : State) → Ok w ≡ opened wide xs → (n : ℕ) → Right before w (take n calls)
+
+-- and what is right after every call of a run, its sections and its object map
+pub record RunIsRight (wide : Bool) (xs : Row ℕ) (before : Lists) (calls : Row Call) : Type 0 where
+  pub sections : AfterEveryCall wide xs (SectionsOfRun wide xs) before calls
+  pub map : AfterEveryCall wide xs (MapOfRun wide xs) before calls
 
 -- what a run leaves in the lists and answers, on a library that may not open
 abbrev pub lists_by : Bool → Row ℕ → Row Call → Lists → Result State Refusal → Lists
@@ -106,12 +110,12 @@ lists_by wide xs calls before (Err e) = before
 abbrev pub lists_after : Bool → Row ℕ → Row Call → Lists → Lists
 lists_after wide xs calls before = lists_by wide xs calls before (opened wide xs)
 
-abbrev pub answers_by : Bool → Row ℕ → Row ℕ → Row Call → Lists → Result State Refusal → Row Answer
-answers_by wide xs text calls before (Ok w) = answers_of wide xs text calls (begun_at w before)
-answers_by wide xs text calls before (Err e) = []
+abbrev pub answers_by : Bool → Row ℕ → Row Call → Lists → Result State Refusal → Row Answer
+answers_by wide xs calls before (Ok w) = answers_of wide xs calls (begun_at w before)
+answers_by wide xs calls before (Err e) = []
 
-abbrev pub answers_after : Bool → Row ℕ → Row ℕ → Row Call → Lists → Row Answer
-answers_after wide xs text calls before = answers_by wide xs text calls before (opened wide xs)
+abbrev pub answers_after : Bool → Row ℕ → Row Call → Lists → Row Answer
+answers_after wide xs calls before = answers_by wide xs calls before (opened wide xs)
 
 -- where the calls of a run have come to, on a library that opens
 pub record RunIs (wide : Bool) (xs : Row ℕ) (calls : Row Call) (before : Lists) (r : Run) : Type 0 where
@@ -132,15 +136,15 @@ pub record SameRecords (l m : Lists) : Type 0 where
   pub entries : records l.entries ≡ records m.entries
 
 -- open and the same calls answer alike, refusals too, and leave the same records after every call
-pub record RunsAgree (wide : Bool) (xs ys text : Row ℕ) (calls : Row Call) (before_left before_right : Lists) : Type 0 where
+pub record RunsAgree (wide : Bool) (xs ys : Row ℕ) (calls : Row Call) (before_left before_right : Lists) : Type 0 where
   pub open_agrees : opened wide xs ≡ opened wide ys
-  pub answers_agree : (n : ℕ) → answers_after wide xs text (take n calls) before_left ≡ answers_after wide ys text (take n calls) before_right
+  pub answers_agree : (n : ℕ) → answers_after wide xs (take n calls) before_left ≡ answers_after wide ys (take n calls) before_right
   pub records_agree : (n : ℕ) → SameRecords (lists_after wide xs (take n calls) before_left) (lists_after wide ys (take n calls) before_right)
 
 -- the law: the same calls on two sources, of bytes xs and ys. The section records, the layouts and the object map are
 -- right on both after every call; and if the two mean the same bytes, they answer alike.
-pub record LawOfAllRuns (wide : Bool) (xs ys text : Row ℕ) (calls : Row Call) (before_left before_right : Lists) : Type 0 where
-  pub sections : AfterEveryCall wide xs (SectionsOfRun wide xs) text before_left calls × AfterEveryCall wide ys (SectionsOfRun wide ys) text before_right calls
-  pub map : AfterEveryCall wide xs (MapOfRun wide xs) text before_left calls × AfterEveryCall wide ys (MapOfRun wide ys) text before_right calls
+pub record LawOfAllRuns (wide : Bool) (xs ys : Row ℕ) (calls : Row Call) (before_left before_right : Lists) : Type 0 where
+  pub left : RunIsRight wide xs before_left calls
+  pub right : RunIsRight wide ys before_right calls
   pub sources : xs ≡ ys → Empty before_left → Empty before_right → SameCapacities before_left before_right →
-      RunsAgree wide xs ys text calls before_left before_right
+      RunsAgree wide xs ys calls before_left before_right

@@ -2,6 +2,7 @@ pub mod Alike
 pub mod AlikeCalls
 pub mod Determined
 pub mod Law
+pub mod Left
 pub mod MapKept
 pub mod Maps
 pub mod Rest

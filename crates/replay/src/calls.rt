@@ -7,20 +7,21 @@ use source::refusal::Refusal;
 use source::span::Span;
 use symbols::symbol::Symbol;
 
-// A call with its arguments. The query of a find is a run of a text that goes with the calls.
-#[derive(Clone, Copy)]
-pub enum Call {
+// A call with its arguments. It is a value and no closure, since the law of all runs speaks of the
+// list of a run's calls.
+#[derive(Clone, Copy, PartialEq, Eq, Debug)]
+pub enum Call<'a> {
     Step,
     Finish,
     Section(u64),
-    Find(Span),
+    Find(&'a [u8]),
     Symbol(u64),
     Name(u64),
     MapStep,
 }
 
 // What a call answered. One that the build would not accept in that state is skipped.
-#[derive(Clone, Copy)]
+#[derive(Clone, Copy, PartialEq, Eq, Debug)]
 pub enum Answer {
     Stepped(StepAnswer),
     Finished,

@@ -1,43 +1,30 @@
 // Makes the calls of a run, each on what the last left.
-ghost use Rattle.std.specs.Prelude.{◌≡◌, Ok, Err};
+ghost use Rattle.std.specs.Prelude.{◌≡◌};
 ghost use Rattle.list.specs.Contents.{contents_of};
-ghost use Rattle.reader.specs.Walks.{opened};
-ghost use Rattle.replay.specs.Law.{AfterEveryCall, SectionsOfRun, MapOfRun, RunIs, lists_after, answers_after};
+ghost use Rattle.replay.specs.Law.{RunIsRight};
+ghost use Rattle.replay.specs.Left.{RunOf};
 ghost use Rattle.replay.specs.Runs.{answers_of, final_of, lists_of, push_all};
-ghost use Rattle.replay.specs.Stages.{source_of, run_at, SameSlices};
+ghost use Rattle.replay.specs.Stages.{source_of, run_at};
 
-use crate::calls::{Answer, Call, Stage};
+use crate::calls::{Call, Stage};
+use crate::lists::Log;
 use crate::perform::perform;
 use fields::width::Width;
-use list::list::List;
 use reader::walk::open;
-use sections::record::{SectionRecord, SegmentRecord};
 use source::refusal::Refusal;
 use source::source::Source;
-use stabs::map::{MapEntry, MapFile};
 
 // Makes the calls in order. The answers are kept as long as there is a slot for them.
-pub fn go_on<S: Source, W: Width>(
-    stage: Stage<S, W>,
-    calls: &[Call],
-    text: &[u8],
-    segments: &mut List<SegmentRecord>,
-    sections: &mut List<SectionRecord>,
-    files: &mut List<MapFile>,
-    entries: &mut List<MapEntry>,
-    answers: &mut List<Answer>,
-) -> Stage<S, W>
+pub fn go_on<S: Source, W: Width>(stage: Stage<S, W>, calls: &[Call], log: &mut Log) -> Stage<S, W>
     ensures source { source_of result ≡ source_of stage }
-    ensures run { run_at result (lists_of segments.new sections.new files.new entries.new) ≡ final_of W.Width.wide (S.Source.bytes (source_of stage)) calls.now (run_at stage (lists_of segments.old sections.old files.old entries.old)) }
-    ensures told { contents_of answers.new ≡ push_all (answers_of W.Width.wide (S.Source.bytes (source_of stage)) text.now calls.now (run_at stage (lists_of segments.old sections.old files.old entries.old))) (contents_of answers.old) }
-    ensures slices { SameSlices segments.old sections.old files.old entries.old segments.new sections.new files.new entries.new }
-    ensures told_slice { answers.new.slots.ghost_name ≡ answers.old.slots.ghost_name }
+    ensures run { run_at result (lists_of log.new.lists) ≡ final_of W.Width.wide (S.Source.bytes (source_of stage)) calls.now (run_at stage (lists_of log.old.lists)) }
+    ensures told { contents_of log.new.answers ≡ push_all (answers_of W.Width.wide (S.Source.bytes (source_of stage)) calls.now (run_at stage (lists_of log.old.lists))) (contents_of log.old.answers) }
 {
     let mut at = stage;
     for call in calls {
-        let (answer, next) = perform(at, *call, text, segments, sections, files, entries);
+        let (answer, next) = perform(at, *call, &mut log.lists);
         at = next;
-        let _ = answers.push(answer, 0);
+        let _ = log.answers.push(answer, 0);
     }
     at
 }
@@ -49,32 +36,11 @@ pub fn replay<S: Source, W: Width + Drop>(
     source: S,
     width: W,
     calls: &[Call],
-    text: &[u8],
-    segments: &mut List<SegmentRecord>,
-    sections: &mut List<SectionRecord>,
-    files: &mut List<MapFile>,
-    entries: &mut List<MapEntry>,
-    answers: &mut List<Answer>,
+    log: &mut Log,
 ) -> Result<Stage<S, W>, (Refusal, S)>
-    ensures stage { elim result [ Ok t ↦ (source_of t ≡ source) × RunIs W.Width.wide (S.Source.bytes source) calls.now (lists_of segments.old sections.old files.old entries.old) (run_at t (lists_of segments.new sections.new files.new entries.new)) | Err e ↦ (e.1 ≡ source) × (Err e.0 ≡ opened W.Width.wide (S.Source.bytes source)) ] }
-    ensures lists { lists_of segments.new sections.new files.new entries.new ≡ lists_after W.Width.wide (S.Source.bytes source) calls.now (lists_of segments.old sections.old files.old entries.old) }
-    ensures told { contents_of answers.new ≡ push_all (answers_after W.Width.wide (S.Source.bytes source) text.now calls.now (lists_of segments.old sections.old files.old entries.old)) (contents_of answers.old) }
-    ensures slices { SameSlices segments.old sections.old files.old entries.old segments.new sections.new files.new entries.new }
-    ensures told_slice { answers.new.slots.ghost_name ≡ answers.old.slots.ghost_name }
-    ensures sections_right { AfterEveryCall W.Width.wide (S.Source.bytes source) (SectionsOfRun W.Width.wide (S.Source.bytes source)) text.now (lists_of segments.old sections.old files.old entries.old) calls.now }
-    ensures map_right { AfterEveryCall W.Width.wide (S.Source.bytes source) (MapOfRun W.Width.wide (S.Source.bytes source)) text.now (lists_of segments.old sections.old files.old entries.old) calls.now }
+    ensures run { RunOf W.Width.wide (S.Source.bytes source) source calls.now log.old log.new result }
+    ensures right { RunIsRight W.Width.wide (S.Source.bytes source) (lists_of log.old.lists) calls.now }
 {
-    match open(source, width) {
-        Ok(walk) => Ok(go_on(
-            Stage::Walking(walk),
-            calls,
-            text,
-            segments,
-            sections,
-            files,
-            entries,
-            answers,
-        )),
-        Err(back) => Err(back),
-    }
+    let walk = open(source, width)?;
+    Ok(go_on(Stage::Walking(walk), calls, log))
 }

@@ -7,4 +7,5 @@ pub mod both;
 pub mod calls;
 pub mod driver;
 pub mod laws;
+pub mod lists;
 pub mod perform;

@@ -1,2 +1,4 @@
 pub mod Members
 pub mod Lines
+pub mod Cpus
+pub mod Rooms

@@ -7,15 +7,23 @@ use stabs::map::{MapEntry, MapFile};
 use std::fmt;
 use symbols::symbol::Symbol;
 
+// A name: where it starts, and how many bytes it has.
+#[derive(Clone, Copy)]
+struct SpanText(Span);
+
+impl fmt::Display for SpanText {
+    fn fmt<W: fmt::Write>(&self, f: &mut fmt::Formatter<W>) -> fmt::Result {
+        write!(f, "{} {}", self.0.start, self.0.len)
+    }
+}
+
 // A segment.
 #[derive(Clone, Copy)]
 pub struct SegmentText(pub SegmentRecord);
 
 impl fmt::Display for SegmentText {
     fn fmt<W: fmt::Write>(&self, f: &mut fmt::Formatter<W>) -> fmt::Result {
-        let place = self.0.place;
-        let count = self.0.count;
-        write!(f, "segment {place} {count}")
+        write!(f, "segment {} {}", self.0.place, self.0.count)
     }
 }
 
@@ -25,13 +33,12 @@ pub struct SectionText(pub SectionRecord);
 
 impl fmt::Display for SectionText {
     fn fmt<W: fmt::Write>(&self, f: &mut fmt::Formatter<W>) -> fmt::Result {
-        let number = self.0.number;
-        let kind = self.0.kind;
-        let place = self.0.place;
-        let addr = self.0.addr;
-        let size = self.0.size;
-        let offset = self.0.offset;
-        write!(f, "section {number} {kind} {place} {addr} {size} {offset}")
+        let r = self.0;
+        write!(
+            f,
+            "section {} {} {} {} {} {}",
+            r.number, r.kind, r.place, r.addr, r.size, r.offset
+        )
     }
 }
 
@@ -46,17 +53,15 @@ impl fmt::Display for SymbolText {
     fn fmt<W: fmt::Write>(&self, f: &mut fmt::Formatter<W>) -> fmt::Result {
         let number = self.number;
         match self.symbol {
-            Some(symbol) => {
-                let address = symbol.address;
-                let section = symbol.section;
-                let kind = symbol.kind;
-                let scope = symbol.scope;
-                let weak = symbol.weak as u8;
-                write!(
-                    f,
-                    "symbol {number} {address} {section} {kind} {scope} {weak}"
-                )
-            }
+            Some(x) => write!(
+                f,
+                "symbol {number} {} {} {} {} {}",
+                x.address,
+                x.section,
+                x.kind,
+                x.scope,
+                u8::from(x.weak)
+            ),
             None => write!(f, "symbol {number} none"),
         }
     }
@@ -73,11 +78,7 @@ impl fmt::Display for NameText {
     fn fmt<W: fmt::Write>(&self, f: &mut fmt::Formatter<W>) -> fmt::Result {
         let number = self.number;
         match self.name {
-            Ok(run) => {
-                let start = run.start;
-                let len = run.len;
-                write!(f, "name {number} {start} {len}")
-            }
+            Ok(run) => write!(f, "name {number} {}", SpanText(run)),
             Err(_) => write!(f, "name {number} unreadable"),
         }
     }
@@ -92,16 +93,9 @@ pub struct FileText {
 
 impl fmt::Display for FileText {
     fn fmt<W: fmt::Write>(&self, f: &mut fmt::Formatter<W>) -> fmt::Result {
-        let number = self.number;
-        let start = self.file.path.start;
-        let len = self.file.path.len;
-        write!(f, "file {number} {start} {len} ")?;
+        write!(f, "file {} {} ", self.number, SpanText(self.file.path))?;
         match self.file.member {
-            Some(run) => {
-                let start = run.start;
-                let len = run.len;
-                write!(f, "{start} {len}")
-            }
+            Some(run) => SpanText(run).fmt(f),
             None => f.write_str("none"),
         }
     }
@@ -113,11 +107,12 @@ pub struct EntryText(pub MapEntry);
 
 impl fmt::Display for EntryText {
     fn fmt<W: fmt::Write>(&self, f: &mut fmt::Formatter<W>) -> fmt::Result {
-        let address = self.0.address;
-        let size = self.0.size;
-        let start = self.0.name.start;
-        let len = self.0.name.len;
-        let file = self.0.file;
-        write!(f, "entry {address} {size} {start} {len} {file}")
+        let MapEntry {
+            address,
+            size,
+            name,
+            file,
+        } = self.0;
+        write!(f, "entry {address} {size} {} {file}", SpanText(name))
     }
 }

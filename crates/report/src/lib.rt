@@ -7,6 +7,7 @@ pub mod canonical;
 pub mod cpu;
 pub mod map;
 pub mod member;
+pub mod room;
 pub mod section;
 pub mod segment;
 pub mod shown;

@@ -15,17 +15,10 @@ pub struct FileLine<'a, S> {
 impl<'a, S: Source> fmt::Display for FileLine<'a, S> {
     fn fmt<W: fmt::Write>(&self, f: &mut fmt::Formatter<W>) -> fmt::Result {
         let source = self.source;
-        let number = self.number;
-        let path = ShownRun {
-            source,
-            run: self.file.path,
-        };
-        write!(f, "{number:>6}  {path}")?;
+        let run = self.file.path;
+        write!(f, "{:>6}  {}", self.number, ShownRun { source, run })?;
         match self.file.member {
-            Some(run) => {
-                let member = ShownRun { source, run };
-                write!(f, "({member})")
-            }
+            Some(run) => write!(f, "({})", ShownRun { source, run }),
             None => Ok(()),
         }
     }
@@ -40,12 +33,15 @@ pub struct EntryLine<'a, S> {
 
 impl<'a, S: Source> fmt::Display for EntryLine<'a, S> {
     fn fmt<W: fmt::Write>(&self, f: &mut fmt::Formatter<W>) -> fmt::Result {
-        let address = self.entry.address;
-        let size = self.entry.size;
-        let file = self.entry.file;
+        let MapEntry {
+            address,
+            size,
+            name,
+            file,
+        } = self.entry;
         let name = ShownRun {
             source: self.source,
-            run: self.entry.name,
+            run: name,
         };
         write!(f, "{address:#018x}  {size:#018x}  {file:>6}  {name}")
     }

@@ -21,31 +21,39 @@ pub struct MemberLine {
     holds: Result<FileKind, Refusal>,
 }
 
+// What the bytes that a record names begin as.
+fn held_kind<S: Source>(s: &S, arch: FatArch) -> Result<FileKind, Refusal>
+    ensures { Holds (S.Source.bytes s.now) arch result }
+{
+    let member = Window::new(s, arch.offset, arch.size)?;
+    Ok(FileKind::of(&member))
+}
+
 impl MemberLine {
     // The line of a member, by its number from 0; refused as its record is.
     pub fn read<S: Source, W: Width>(s: &S, number: u64) -> Result<MemberLine, Refusal>
         ensures { MatchResult result (λ l. (l.number ≡ number) × Arch W.Width.wide (S.Source.bytes s.now) number l.arch × Holds (S.Source.bytes s.now) l.arch l.holds) (λ e. NoArch W.Width.wide (S.Source.bytes s.now) number e) }
     {
         let arch = arch::<S, W>(s, number)?;
-        let holds = match Window::new(s, arch.offset, arch.size) {
-            Ok(member) => Ok(FileKind::of(&member)),
-            Err(e) => Err(e),
-        };
         Ok(MemberLine {
             number,
             arch,
-            holds,
+            holds: held_kind(s, arch),
         })
     }
 }
 
 impl fmt::Display for MemberLine {
     fn fmt<W: fmt::Write>(&self, f: &mut fmt::Formatter<W>) -> fmt::Result {
-        let number = self.number;
-        let cpu = CpuType(self.arch.cputype);
-        let offset = self.arch.offset;
-        let size = self.arch.size;
-        write!(f, "{number:>6}  {cpu:<8}  {offset:#018x}  {size:#018x}  ")?;
+        let arch = self.arch;
+        write!(
+            f,
+            "{:>6}  {:<8}  {:#018x}  {:#018x}  ",
+            self.number,
+            CpuType::from(arch.cputype),
+            arch.offset,
+            arch.size
+        )?;
         match self.holds {
             Ok(kind) => write!(f, "{kind}"),
             Err(e) => write!(f, "{e}"),

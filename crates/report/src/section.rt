@@ -33,14 +33,11 @@ impl SectionLine {
 
 impl fmt::Display for SectionLine {
     fn fmt<W: fmt::Write>(&self, f: &mut fmt::Formatter<W>) -> fmt::Result {
-        let number = self.listed.number;
-        let kind = self.listed.kind;
-        let addr = self.listed.addr;
-        let size = self.listed.size;
-        let offset = self.listed.offset;
+        let r = self.listed;
         write!(
             f,
-            "{number:>7}  {kind:<17}  {addr:#018x}  {size:#018x}  {offset:#018x}  "
+            "{:>7}  {:<17}  {:#018x}  {:#018x}  {:#018x}  ",
+            r.number, r.kind, r.addr, r.size, r.offset
         )?;
         let segname = Shown(self.segname.as_bytes());
         let sectname = Shown(self.sectname.as_bytes());

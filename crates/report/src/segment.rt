@@ -8,10 +8,14 @@ pub struct SegmentLine(pub SegmentRecord);
 
 impl fmt::Display for SegmentLine {
     fn fmt<W: fmt::Write>(&self, f: &mut fmt::Formatter<W>) -> fmt::Result {
-        let place = self.0.place;
-        let first = self.0.first;
-        let count = self.0.count;
-        let wrapped = if self.0.wrapped { 1 } else { 0 };
-        write!(f, "{place:>7}  {first:>7}  {count:>8}  {wrapped:>7}")
+        let r = self.0;
+        write!(
+            f,
+            "{:>7}  {:>7}  {:>8}  {:>7}",
+            r.place,
+            r.first,
+            r.count,
+            u8::from(r.wrapped)
+        )
     }
 }

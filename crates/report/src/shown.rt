@@ -34,11 +34,9 @@ pub struct ShownRun<'a, S> {
 
 impl<'a, S: Source> fmt::Display for ShownRun<'a, S> {
     fn fmt<W: fmt::Write>(&self, f: &mut fmt::Formatter<W>) -> fmt::Result {
-        let start = self.run.start;
-        for p in start..start.saturating_add(self.run.len) {
-            if let Some(b) = self.source.byte(p) {
-                put_byte(f, b)?;
-            }
+        let Span { start, len } = self.run;
+        for b in (start..start.saturating_add(len)).map_while(|p| self.source.byte(p)) {
+            put_byte(f, b)?;
         }
         Ok(())
     }

@@ -32,30 +32,24 @@ impl SymbolLine {
     ) -> Result<Option<SymbolLine>, Refusal>
         ensures { result ≡ symbol_line number (symbol_answer W.Width.wide (S.Source.bytes reading.now.source) reading.now.state (contents_of sections.now) number) (name_answer W.Width.wide (S.Source.bytes reading.now.source) reading.now.state number) }
     {
-        match reading.symbol(sections, number) {
-            Ok(Some(symbol)) => Ok(Some(SymbolLine {
-                number,
-                symbol,
-                name: reading.name(number),
-            })),
-            Ok(None) => Ok(None),
-            Err(e) => Err(e),
-        }
+        let symbol = reading.symbol(sections, number)?;
+        Ok(symbol.map(|symbol| SymbolLine {
+            number,
+            symbol,
+            name: reading.name(number),
+        }))
     }
 }
 
 impl fmt::Display for SymbolLine {
     fn fmt<W: fmt::Write>(&self, f: &mut fmt::Formatter<W>) -> fmt::Result {
-        let number = self.number;
-        let address = self.symbol.address;
-        write!(f, "{number:>6}  {address:#018x}  ")?;
-        match self.symbol.section {
+        let symbol = self.symbol;
+        write!(f, "{:>6}  {:#018x}  ", self.number, symbol.address)?;
+        match symbol.section {
             SymbolSection::Section(n) => write!(f, "section:{n:<3}")?,
             section => write!(f, "{section:<11}")?,
         }
-        let kind = self.symbol.kind;
-        let scope = self.symbol.scope;
-        let weak = if self.symbol.weak { "weak" } else { "" };
-        write!(f, "  {kind:<7}  {scope:<11}  {weak:<4}")
+        let weak = if symbol.weak { "weak" } else { "" };
+        write!(f, "  {:<7}  {:<11}  {weak:<4}", symbol.kind, symbol.scope)
     }
 }

@@ -1,68 +1,44 @@
 // Whether two sources answer every call alike.
-use crate::room::record_slots;
 use crate::slots::{Room, Slots, commands, symbols};
 use anyhow::anyhow;
 use fields::width::Width;
 use list::list::List;
 use replay::both::replay_both;
-use replay::calls::{Answer, Call, Stage};
-use script::same::{same_answer, same_entry, same_file, same_section, same_segment};
+use replay::calls::{Call, Stage};
+use replay::lists::{Lists, Log};
+use report::room::record_slots;
+use script::same::Same;
 use script::shown::{AnswerShown, CallShown};
-use sections::record::{SectionRecord, SegmentRecord};
 use source::refusal::Refusal;
 use source::source::Source;
-use stabs::map::{MapEntry, MapFile};
 use std::alloc::{AllocError, Global};
 
-// Where the answers first differ.
-fn first_difference(a: &List<Answer>, b: &List<Answer>) -> Option<usize> {
-    for i in 0..a.count().max(b.count()) {
-        match (a.get(i), b.get(i)) {
-            (Some(x), Some(y)) if same_answer(x, y) => {}
-            _ => return Some(i),
-        }
+// Where two lists first differ; where one ends, if it is the other's beginning.
+fn first_difference<T: Copy + Same>(a: &List<T>, b: &List<T>) -> Option<usize> {
+    let (a, b) = (a.records(), b.records());
+    let end = if a.len() == b.len() {
+        None
+    } else {
+        Some(a.len().min(b.len()))
+    };
+    a.iter().zip(b).position(|(x, y)| !x.same(y)).or(end)
+}
+
+// The first of the lists that are not alike.
+fn different_list(a: &Lists, b: &Lists) -> Option<&'static str> {
+    if first_difference(&a.listing.segments, &b.listing.segments).is_some() {
+        return Some("the list of segments");
+    }
+    if first_difference(&a.listing.sections, &b.listing.sections).is_some() {
+        return Some("the list of sections");
+    }
+    if first_difference(&a.map.files, &b.map.files).is_some() {
+        return Some("the list of files");
+    }
+    if first_difference(&a.map.entries, &b.map.entries).is_some() {
+        return Some("the list of entries");
     }
     None
-}
-
-fn same_segments(a: &List<SegmentRecord>, b: &List<SegmentRecord>) -> bool {
-    for i in 0..a.count().max(b.count()) {
-        match (a.get(i), b.get(i)) {
-            (Some(x), Some(y)) if same_segment(x, y) => {}
-            _ => return false,
-        }
-    }
-    true
-}
-
-fn same_sections(a: &List<SectionRecord>, b: &List<SectionRecord>) -> bool {
-    for i in 0..a.count().max(b.count()) {
-        match (a.get(i), b.get(i)) {
-            (Some(x), Some(y)) if same_section(x, y) => {}
-            _ => return false,
-        }
-    }
-    true
-}
-
-fn same_files(a: &List<MapFile>, b: &List<MapFile>) -> bool {
-    for i in 0..a.count().max(b.count()) {
-        match (a.get(i), b.get(i)) {
-            (Some(x), Some(y)) if same_file(x, y) => {}
-            _ => return false,
-        }
-    }
-    true
-}
-
-fn same_entries(a: &List<MapEntry>, b: &List<MapEntry>) -> bool {
-    for i in 0..a.count().max(b.count()) {
-        match (a.get(i), b.get(i)) {
-            (Some(x), Some(y)) if same_entry(x, y) => {}
-            _ => return false,
-        }
-    }
-    true
 }
 
 // The calls that read a library whole: its commands, its map, and each symbol with its name.
@@ -70,7 +46,7 @@ fn every_call<S: Source, W: Width>(
     heap: Global,
     s: &S,
     symbols: u64,
-) -> Result<Vec<Call>, AllocError> {
+) -> Result<Vec<Call<'static>>, AllocError> {
     let mut calls = commands::<S, W>(heap, s)?;
     for n in 0..symbols {
         calls.push(Call::MapStep)?;
@@ -83,48 +59,7 @@ fn every_call<S: Source, W: Width>(
 
 // Why a library could not be opened.
 fn refusal_of<S: Drop, W: Drop>(opened: Result<Stage<S, W>, (Refusal, S)>) -> Option<Refusal> {
-    match opened {
-        Ok(_) => None,
-        Err((e, _)) => Some(e),
-    }
-}
-
-fn tell_opened(
-    rt: &HostRuntime,
-    halves: Option<Refusal>,
-    whole: Option<Refusal>,
-) -> anyhow::Result<()> {
-    if let (Some(a), Some(b)) = (halves, whole) {
-        if a == b {
-            println!(rt; "the halves and the whole are both refused: {a}")?;
-            return Ok(());
-        }
-    }
-    differ(rt, "whether they can be opened")
-}
-
-fn tell_difference<S: Source, T: Source>(
-    rt: &HostRuntime,
-    halves: &S,
-    whole: &T,
-    call: Option<Call>,
-    a: Option<Answer>,
-    b: Option<Answer>,
-) -> anyhow::Result<()> {
-    let (Some(call), Some(a), Some(b)) = (call, a, b) else {
-        return differ(rt, "the number of answers");
-    };
-    let call = CallShown { call, text: b"" };
-    let a = AnswerShown {
-        source: halves,
-        answer: a,
-    };
-    let b = AnswerShown {
-        source: whole,
-        answer: b,
-    };
-    println!(rt; "{call}: the halves answer {a}; the whole answers {b}")?;
-    Err(anyhow!("different"))
+    opened.err().map(|(e, _)| e)
 }
 
 fn differ(rt: &HostRuntime, what: &str) -> anyhow::Result<()> {
@@ -132,8 +67,51 @@ fn differ(rt: &HostRuntime, what: &str) -> anyhow::Result<()> {
     Err(anyhow!("different"))
 }
 
-fn tell_same(rt: &HostRuntime, calls: usize) -> anyhow::Result<()> {
-    println!(rt; "the halves answer as the whole does: {calls} calls")?;
+// What a call answered on each.
+fn tell_difference<S: Source, T: Source>(
+    rt: &HostRuntime,
+    call: CallShown,
+    a: AnswerShown<S>,
+    b: AnswerShown<T>,
+) -> anyhow::Result<()> {
+    println!(rt; "{call}: the halves answer {a}; the whole answers {b}")?;
+    Err(anyhow!("different"))
+}
+
+// Whether the answers and the records of two runs of the same calls are the same.
+fn compare<S: Source, T: Source>(
+    rt: &HostRuntime,
+    halves: &S,
+    whole: &T,
+    calls: &[Call],
+    left: &Log,
+    right: &Log,
+) -> anyhow::Result<()> {
+    if let Some(i) = first_difference(&left.answers, &right.answers) {
+        let (Some(call), Some(a), Some(b)) = (
+            calls.get(i),
+            left.answers.get(i),
+            right.answers.get(i),
+        ) else {
+            return differ(rt, "the number of answers");
+        };
+        let a = AnswerShown {
+            source: halves,
+            answer: a,
+        };
+        let b = AnswerShown {
+            source: whole,
+            answer: b,
+        };
+        return tell_difference(rt, CallShown(*call), a, b);
+    }
+    if let Some(what) = different_list(&left.lists, &right.lists) {
+        return differ(rt, what);
+    }
+    println!(rt;
+        "the halves answer as the whole does: {} calls",
+        calls.len()
+    )?;
     Ok(())
 }
 
@@ -146,67 +124,23 @@ pub(crate) fn alike<S: Source, T: Source, W: Width + Copy + Drop>(
 ) -> anyhow::Result<()> {
     let heap = rt.alloc();
     let most = symbols(heap, halves, width)?.max(symbols(heap, whole, width)?);
-    let calls = every_call::<T, W>(heap, whole, most)?;
+    let calls = every_call::<T, W>(heap, whole, most as u64)?;
     let room = Room {
-        records: record_slots::<S, W>(halves).max(record_slots::<T, W>(whole)) as usize,
-        symbols: most as usize,
+        records: record_slots::<S, W>(halves).max(record_slots::<T, W>(whole)),
+        symbols: most,
         answers: calls.len(),
     };
-    let mut left = Slots::new(heap, room)?;
-    let mut right = Slots::new(heap, room)?;
-    let mut left_segments = List::new(left.segments.as_mut_slice());
-    let mut left_sections = List::new(left.sections.as_mut_slice());
-    let mut left_files = List::new(left.files.as_mut_slice());
-    let mut left_entries = List::new(left.entries.as_mut_slice());
-    let mut left_answers = List::new(left.answers.as_mut_slice());
-    let mut right_segments = List::new(right.segments.as_mut_slice());
-    let mut right_sections = List::new(right.sections.as_mut_slice());
-    let mut right_files = List::new(right.files.as_mut_slice());
-    let mut right_entries = List::new(right.entries.as_mut_slice());
-    let mut right_answers = List::new(right.answers.as_mut_slice());
-    let (a, b) = replay_both(
-        halves,
-        whole,
-        width,
-        &calls,
-        b"",
-        &mut left_segments,
-        &mut left_sections,
-        &mut left_files,
-        &mut left_entries,
-        &mut left_answers,
-        &mut right_segments,
-        &mut right_sections,
-        &mut right_files,
-        &mut right_entries,
-        &mut right_answers,
-    );
+    let mut left_slots = Slots::new(heap, room)?;
+    let mut right_slots = Slots::new(heap, room)?;
+    let mut left = left_slots.log();
+    let mut right = right_slots.log();
+    let (a, b) = replay_both(halves, whole, width, &calls, &mut left, &mut right);
     match (refusal_of(a), refusal_of(b)) {
-        (None, None) => {}
-        (a, b) => return tell_opened(rt, a, b),
+        (None, None) => compare(rt, halves, whole, &calls, &left, &right),
+        (Some(a), Some(b)) if a == b => {
+            println!(rt; "the halves and the whole are both refused: {a}")?;
+            Ok(())
+        }
+        _ => differ(rt, "whether they can be opened"),
     }
-    if let Some(i) = first_difference(&left_answers, &right_answers) {
-        let call = calls.get(i).copied();
-        return tell_difference(
-            rt,
-            halves,
-            whole,
-            call,
-            left_answers.get(i),
-            right_answers.get(i),
-        );
-    }
-    if !same_segments(&left_segments, &right_segments) {
-        return differ(rt, "the list of segments");
-    }
-    if !same_sections(&left_sections, &right_sections) {
-        return differ(rt, "the list of sections");
-    }
-    if !same_files(&left_files, &right_files) {
-        return differ(rt, "the list of files");
-    }
-    if !same_entries(&left_entries, &right_entries) {
-        return differ(rt, "the list of entries");
-    }
-    tell_same(rt, calls.len())
 }

@@ -1,10 +1,10 @@
-// Files in memory.
-use anyhow::anyhow;
+// Files in memory. No clause can say what a file holds, so no library has these functions, and each
+// program reads its own files.
 use std::fs;
 use std::fs::File;
 use std::io::Read;
 
-// The whole of a file, in memory of the file's own size.
+// The whole of a file, in memory of the file's own size; `fs::read` would take more as it goes on.
 fn read_whole(rt: &HostRuntime, path: &str) -> anyhow::Result<Vec<u8>> {
     let mut file = File::open(rt, path)?;
     let room = usize::try_from(file.metadata()?.len())?;
@@ -14,27 +14,15 @@ fn read_whole(rt: &HostRuntime, path: &str) -> anyhow::Result<Vec<u8>> {
 }
 
 // One line says of which file and why.
-pub(crate) fn complain(rt: &HostRuntime, path: &str, e: anyhow::Error) -> anyhow::Result<()> {
+pub(crate) fn complain<T>(rt: &HostRuntime, path: &str, e: anyhow::Error) -> anyhow::Result<T> {
     eprintln!(rt; "rerun: {path}: {e}")?;
     Err(e)
 }
 
 pub(crate) fn read_file(rt: &HostRuntime, path: &str) -> anyhow::Result<Vec<u8>> {
-    match read_whole(rt, path) {
-        Ok(bytes) => Ok(bytes),
-        Err(e) => {
-            eprintln!(rt; "rerun: {path}: {e}")?;
-            Err(e)
-        }
-    }
+    read_whole(rt, path).or_else(|e| complain(rt, path, e))
 }
 
 pub(crate) fn read_text(rt: &HostRuntime, path: &str) -> anyhow::Result<String> {
-    match fs::read_to_string(rt, path) {
-        Ok(text) => Ok(text),
-        Err(e) => {
-            eprintln!(rt; "rerun: {path}: {e}")?;
-            Err(anyhow!("unreadable"))
-        }
-    }
+    fs::read_to_string(rt, path).or_else(|e| complain(rt, path, e.into()))
 }

@@ -1,18 +1,29 @@
 // One line of a script.
 use replay::calls::Call;
-use source::span::Span;
+use std::error::Error;
+use std::fmt;
 
-// What a line asks for: nothing, a search for the section of a name, which is a run of the script,
-// or another call so many times. Any other line is bad.
-#[derive(Clone, Copy)]
-pub(crate) enum Line {
-    Nothing,
-    Search(Span),
-    Calls(Call, u64),
-    Bad,
+// Why a line is bad.
+#[derive(Clone, Copy, Debug, PartialEq, Eq)]
+pub(crate) enum LineError {
+    NoCall,
+    TooManyCalls,
 }
 
-fn numbered(text: &str) -> Option<Call> {
+impl fmt::Display for LineError {
+    fn fmt<W: fmt::Write>(&self, f: &mut fmt::Formatter<W>) -> fmt::Result {
+        f.write_str(match self {
+            LineError::NoCall => {
+                "no call: step, finish, section N, find NAME, symbol N, name N or map step"
+            }
+            LineError::TooManyCalls => "more than 10000000 calls",
+        })
+    }
+}
+
+impl Error for LineError {}
+
+fn numbered(text: &str) -> Option<Call<'static>> {
     let (word, digits) = text.split_once(' ')?;
     let number = digits.trim().parse::<u64>().ok()?;
     match word {
@@ -23,7 +34,7 @@ fn numbered(text: &str) -> Option<Call> {
     }
 }
 
-fn call_of(text: &str) -> Option<Call> {
+fn call_of(text: &str) -> Option<Call<'static>> {
     match text {
         "step" => Some(Call::Step),
         "finish" => Some(Call::Finish),
@@ -32,29 +43,21 @@ fn call_of(text: &str) -> Option<Call> {
     }
 }
 
-fn calls_of(text: &str) -> Option<(Call, u64)> {
+fn calls_of(text: &str) -> Option<(Call<'static>, u64)> {
     match text.split_once('*') {
         Some((call, times)) => Some((call_of(call.trim())?, times.trim().parse::<u64>().ok()?)),
         None => Some((call_of(text.trim())?, 1)),
     }
 }
 
-// What a line asks for, by where it starts in its script. The name of a search is the rest of the
-// line, as it is.
-pub(crate) fn read_line(line: &str, start: u64) -> Line {
+// The call that a line asks for, and how many times; an empty line and one that starts with # ask for
+// none. The name of a search is the rest of the line, as it is.
+pub(crate) fn read_line(line: &str) -> Result<Option<(Call<'_>, u64)>, LineError> {
     if let Some(name) = line.strip_prefix("find ") {
-        let len = name.len() as u64;
-        let end = start.saturating_add(line.len() as u64);
-        return Line::Search(Span {
-            start: end.saturating_sub(len),
-            len,
-        });
+        return Ok(Some((Call::Find(name.as_bytes()), 1)));
     }
     if line.trim().is_empty() || line.starts_with('#') {
-        return Line::Nothing;
+        return Ok(None);
     }
-    match calls_of(line) {
-        Some((call, times)) => Line::Calls(call, times),
-        None => Line::Bad,
-    }
+    calls_of(line).map(Some).ok_or(LineError::NoCall)
 }

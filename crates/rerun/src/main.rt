@@ -6,15 +6,14 @@ mod file;
 mod line;
 mod load;
 mod replayed;
-mod room;
 mod slots;
 
 use alike::alike;
 use anyhow::anyhow;
 use fields::kind::FileKind;
 use fields::width::{Bits32, Bits64};
-use file::{complain, read_file};
-use load::load;
+use file::{complain, read_file, read_text};
+use load::read_calls;
 use replayed::replayed;
 use source::join::Join;
 use source::plain::Plain;
@@ -30,23 +29,55 @@ const HELP: &str =
 a script has a call on each line: step, finish, section N, find NAME, symbol N, name N, map step;
 a count repeats a call, as in step * 100; empty lines and lines that start with # are passed over";
 
-fn usage(rt: &HostRuntime) -> anyhow::Result<()> {
-    eprintln!(rt; "{USAGE}")?;
-    Err(anyhow!("usage"))
+// What the words of the command line ask for.
+enum Command<'a> {
+    Help,
+    Replay {
+        script: &'a str,
+        path: &'a str,
+    },
+    Same {
+        first: &'a str,
+        second: &'a str,
+        whole: &'a str,
+    },
 }
 
-fn help(rt: &HostRuntime) -> anyhow::Result<()> {
-    rt.println(HELP)?;
-    Ok(())
+impl<'a> Command<'a> {
+    fn parse(words: &[&'a str]) -> Option<Command<'a>> {
+        match *words {
+            ["--help"] => Some(Command::Help),
+            ["--replay", script, path] => Some(Command::Replay { script, path }),
+            ["--same", first, second, whole] => Some(Command::Same {
+                first,
+                second,
+                whole,
+            }),
+            _ => None,
+        }
+    }
+
+    fn run(self, rt: &HostRuntime) -> anyhow::Result<()> {
+        match self {
+            Command::Help => Ok(rt.println(HELP)?),
+            Command::Replay { script, path } => replay_file(rt, script, path),
+            Command::Same {
+                first,
+                second,
+                whole,
+            } => same_files(rt, first, second, whole),
+        }
+    }
 }
 
 fn replay_file(rt: &HostRuntime, script: &str, path: &str) -> anyhow::Result<()> {
-    let script = load(rt, script)?;
+    let text = read_text(rt, script)?;
+    let calls = read_calls(rt, script, text.as_str())?;
     let bytes = read_file(rt, path)?;
-    let s = Plain(&bytes);
-    match FileKind::of(&s) {
-        FileKind::MachO32(_) => replayed(rt, &s, Bits32, &script),
-        FileKind::MachO64(_) => replayed(rt, &s, Bits64, &script),
+    let source = Plain(&bytes);
+    match FileKind::of(&source) {
+        FileKind::MachO32(_) => replayed(rt, &source, Bits32, &calls),
+        FileKind::MachO64(_) => replayed(rt, &source, Bits64, &calls),
         _ => complain(rt, path, anyhow!("no thin Mach-O file")),
     }
 }
@@ -66,58 +97,18 @@ fn same_files(rt: &HostRuntime, first: &str, second: &str, path: &str) -> anyhow
     }
 }
 
-fn run_three(rt: &HostRuntime, option: &str, a: &str, b: &str) -> anyhow::Result<()> {
-    if option == "--replay" {
-        return replay_file(rt, a, b);
-    }
-    usage(rt)
+fn usage(rt: &HostRuntime) -> anyhow::Result<()> {
+    eprintln!(rt; "{USAGE}")?;
+    Err(anyhow!("usage"))
 }
 
-fn run_four(rt: &HostRuntime, option: &str, a: &str, b: &str, c: &str) -> anyhow::Result<()> {
-    if option == "--same" {
-        return same_files(rt, a, b, c);
-    }
-    usage(rt)
-}
-
-// One word: only help needs no more.
-fn run_one(rt: &HostRuntime, option: &str) -> anyhow::Result<()> {
-    if option == "--help" {
-        return help(rt);
-    }
-    usage(rt)
-}
-
-// What the words after the option are.
-fn run_option(
-    rt: &HostRuntime,
-    option: &str,
-    a: Option<String>,
-    b: Option<String>,
-    c: Option<String>,
-) -> anyhow::Result<()> {
-    match (a, b, c) {
-        (None, None, None) => run_one(rt, option),
-        (Some(a), Some(b), None) => run_three(rt, option, a.as_str(), b.as_str()),
-        (Some(a), Some(b), Some(c)) => run_four(rt, option, a.as_str(), b.as_str(), c.as_str()),
-        _ => usage(rt),
-    }
-}
-
-// What the words of the command line ask for.
 fn run(rt: &HostRuntime) -> anyhow::Result<()> {
-    let mut args = env::args(rt)?;
-    let _program = args.next();
-    let Some(option) = args.next() else {
-        return usage(rt);
-    };
-    let a = args.next();
-    let b = args.next();
-    let c = args.next();
-    if args.next().is_some() {
-        return usage(rt);
+    let args: Vec<String> = env::args(rt)?.skip(1).collect(rt.alloc())?;
+    let words: Vec<&str> = args.iter().map(|word| word.as_str()).collect(rt.alloc())?;
+    match Command::parse(&words) {
+        Some(command) => command.run(rt),
+        None => usage(rt),
     }
-    run_option(rt, option.as_str(), a, b, c)
 }
 
 // What went wrong was said in one line where it was seen; the status tells of it, and of a write that

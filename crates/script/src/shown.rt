@@ -1,34 +1,24 @@
 // Calls and answers, as they are printed.
 use reader::state::{MapAnswer, StepAnswer};
 use replay::calls::{Answer, Call};
-use report::shown::ShownRun;
+use report::shown::{Shown, ShownRun};
 use sections::record::SectionRecord;
-use source::plain::Plain;
 use source::source::Source;
+use source::span::Span;
 use std::fmt;
 use symbols::symbol::Symbol;
 
-// A call as a script has it; the name of a search is a run of a text.
+// A call as a script has it.
 #[derive(Clone, Copy)]
-pub struct CallShown<'a> {
-    pub call: Call,
-    pub text: &'a [u8],
-}
+pub struct CallShown<'a>(pub Call<'a>);
 
 impl<'a> fmt::Display for CallShown<'a> {
     fn fmt<W: fmt::Write>(&self, f: &mut fmt::Formatter<W>) -> fmt::Result {
-        match self.call {
+        match self.0 {
             Call::Step => f.write_str("step"),
             Call::Finish => f.write_str("finish"),
             Call::Section(n) => write!(f, "section {n}"),
-            Call::Find(run) => {
-                let source = Plain(self.text);
-                let name = ShownRun {
-                    source: &source,
-                    run,
-                };
-                write!(f, "find {name}")
-            }
+            Call::Find(name) => write!(f, "find {}", Shown(name)),
             Call::Symbol(n) => write!(f, "symbol {n}"),
             Call::Name(n) => write!(f, "name {n}"),
             Call::MapStep => f.write_str("map step"),
@@ -36,42 +26,60 @@ impl<'a> fmt::Display for CallShown<'a> {
     }
 }
 
-fn step_words(answer: StepAnswer) -> &'static str {
-    match answer {
-        StepAnswer::Segment => "listed a segment",
-        StepAnswer::Symbols => "found the symbols",
-        StepAnswer::Passed => "passed a command",
-        StepAnswer::End => "end",
-        StepAnswer::Broken => "broken",
+#[derive(Clone, Copy)]
+struct StepShown(StepAnswer);
+
+impl fmt::Display for StepShown {
+    fn fmt<W: fmt::Write>(&self, f: &mut fmt::Formatter<W>) -> fmt::Result {
+        f.write_str(match self.0 {
+            StepAnswer::Segment => "listed a segment",
+            StepAnswer::Symbols => "found the symbols",
+            StepAnswer::Passed => "passed a command",
+            StepAnswer::End => "end",
+            StepAnswer::Broken => "broken",
+        })
     }
 }
 
-fn map_words(answer: MapAnswer) -> &'static str {
-    match answer {
-        MapAnswer::Passed => "passed a symbol",
-        MapAnswer::End => "end",
+#[derive(Clone, Copy)]
+struct MapShown(MapAnswer);
+
+impl fmt::Display for MapShown {
+    fn fmt<W: fmt::Write>(&self, f: &mut fmt::Formatter<W>) -> fmt::Result {
+        f.write_str(match self.0 {
+            MapAnswer::Passed => "passed a symbol",
+            MapAnswer::End => "end",
+        })
     }
 }
 
-fn put_section<W: fmt::Write>(f: &mut fmt::Formatter<W>, r: SectionRecord) -> fmt::Result {
-    let number = r.number;
-    let kind = r.kind;
-    let addr = r.addr;
-    let size = r.size;
-    let offset = r.offset;
-    write!(
-        f,
-        "section {number}, {kind}, address {addr:#x}, size {size:#x}, offset {offset:#x}"
-    )
+#[derive(Clone, Copy)]
+struct SectionShown(SectionRecord);
+
+impl fmt::Display for SectionShown {
+    fn fmt<W: fmt::Write>(&self, f: &mut fmt::Formatter<W>) -> fmt::Result {
+        let r = self.0;
+        write!(
+            f,
+            "section {}, {}, address {:#x}, size {:#x}, offset {:#x}",
+            r.number, r.kind, r.addr, r.size, r.offset
+        )
+    }
 }
 
-fn put_symbol<W: fmt::Write>(f: &mut fmt::Formatter<W>, x: Symbol) -> fmt::Result {
-    let address = x.address;
-    let section = x.section;
-    let kind = x.kind;
-    let scope = x.scope;
-    let weak = if x.weak { ", weak" } else { "" };
-    write!(f, "address {address:#x}, {section}, {kind}, {scope}{weak}")
+#[derive(Clone, Copy)]
+struct SymbolShown(Symbol);
+
+impl fmt::Display for SymbolShown {
+    fn fmt<W: fmt::Write>(&self, f: &mut fmt::Formatter<W>) -> fmt::Result {
+        let x = self.0;
+        let weak = if x.weak { ", weak" } else { "" };
+        write!(
+            f,
+            "address {:#x}, {}, {}, {}{weak}",
+            x.address, x.section, x.kind, x.scope
+        )
+    }
 }
 
 // An answer; the source is the one that was asked.
@@ -84,20 +92,18 @@ pub struct AnswerShown<'a, S> {
 impl<'a, S: Source> fmt::Display for AnswerShown<'a, S> {
     fn fmt<W: fmt::Write>(&self, f: &mut fmt::Formatter<W>) -> fmt::Result {
         match self.answer {
-            Answer::Stepped(answer) => f.write_str(step_words(answer)),
+            Answer::Stepped(answer) => StepShown(answer).fmt(f),
             Answer::Finished => f.write_str("finished"),
-            Answer::Listed(r) | Answer::Found(Some(r)) => put_section(f, r),
+            Answer::Listed(r) | Answer::Found(Some(r)) => SectionShown(r).fmt(f),
             Answer::Found(None) => f.write_str("none"),
-            Answer::Known(Some(x)) => put_symbol(f, x),
+            Answer::Known(Some(x)) => SymbolShown(x).fmt(f),
             Answer::Known(None) => f.write_str("a stab"),
             Answer::Named(run) => {
                 let source = self.source;
-                let name = ShownRun { source, run };
-                let start = run.start;
-                let len = run.len;
-                write!(f, "{len} bytes at {start}: {name}")
+                let Span { start, len } = run;
+                write!(f, "{len} bytes at {start}: {}", ShownRun { source, run })
             }
-            Answer::Mapped(answer) => f.write_str(map_words(answer)),
+            Answer::Mapped(answer) => MapShown(answer).fmt(f),
             Answer::Refused(e) => write!(f, "{e}"),
             Answer::Skipped => f.write_str("skipped"),
         }

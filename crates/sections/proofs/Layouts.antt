@@ -13,7 +13,7 @@ use Rattle.sections.specs.declared.record.SectionRecord.{SectionRecord}
 use Rattle.sections.specs.declared.record.SectionTable.{SectionTable}
 use Rattle.sections.specs.Layouts.{sections_from, backed_offsets, Layout, none, zero_filled, backed}
 use Rattle.sections.specs.Listings.{given_section, given_start, record_of, checked, filled}
-use Rattle.sections.specs.Offsets.{file_backed, least_from, placed, start_at, end_at, onward, next_start, next_offsets}
+use Rattle.sections.specs.Offsets.{file_backed, beyond_4gib, least_from, placed, start_at, end_at, onward, next_start, next_offsets}
 use Rattle.sections.proofs.Offsets.{least_is, least_only, at_stored, at_past, at-placed}
 
 module _ (wide : Bool) (xs : List ℕ) (t : SectionTable) where
@@ -63,7 +63,7 @@ module _ (wide : Bool) (xs : List ℕ) (t : SectionTable) where
   starts_zero_filled n place c c' b o = cond-false _ _ _ b ∙ ap (starts_from n (next place)) o
 
   -- below 4 GiB nothing is refused, and nothing moves
-  pub checked_still : (n place : ℕ) (c : SectionOffsets) → place + n * section_size wide ≤ length xs → c.beyond_4gib ≡ false → checked wide xs t n place c ≡ Ok c
+  pub checked_still : (n place : ℕ) (c : SectionOffsets) → place + n * section_size wide ≤ length xs → beyond_4gib c ≡ false → checked wide xs t n place c ≡ Ok c
   checked_still zero place c h b = refl
   checked_still (suc n) place c h b =
       let k = one_less n place h in
@@ -72,7 +72,7 @@ module _ (wide : Bool) (xs : List ℕ) (t : SectionTable) where
 
   -- the cursor beyond 4 GiB, before the true sums reach 2^64
   pub record Far (c : SectionOffsets) : Type 0 where
-    pub beyond : c.beyond_4gib ≡ true
+    pub beyond : beyond_4gib c ≡ true
     pub low : c.segment_end < 2 ^ 64
 
   pub record Laid (n place : ℕ) (c : SectionOffsets) : Type 0 where
@@ -90,7 +90,7 @@ module _ (wide : Bool) (xs : List ℕ) (t : SectionTable) where
       (p.0, mod-eq_of_lt a, mod-eq_of_lt b)
 
   never_ok : {X : Type 0} (r : Result X Refusal) (e : Refusal) (x : X) → r ≡ Err e → r ≡ Ok x → ⊥
-  never_ok r e x p q = let z : ◌≡◌ {A = ℕ} 0 1 = cc in omega arith
+  never_ok r e x p q = cc
 
   pub sound : (n place : ℕ) (c after : SectionOffsets) → place + n * section_size wide ≤ length xs → Far c → checked wide xs t n place c ≡ Ok after → after.wrapped ≡ false → Laid n place c
   sound zero place c after h f e u = record { unwrapped = ap (λ o. o.wrapped) (let same : c ≡ after = cc in same) ∙ u; laid = none }
@@ -206,7 +206,7 @@ module _ (wide : Bool) (xs : List ℕ) (t : SectionTable) where
       ∙ append_assoc (records l) (x ∷ []) _
 
   -- and their file-backed ones begin where they are found
-  pub rows_starts : (n place : ℕ) (c after : SectionOffsets) (m : ℕ) → place + n * section_size wide ≤ length xs → c.beyond_4gib ≡ true → checked wide xs t n place c ≡ Ok after →
+  pub rows_starts : (n place : ℕ) (c after : SectionOffsets) (m : ℕ) → place + n * section_size wide ≤ length xs → beyond_4gib c ≡ true → checked wide xs t n place c ≡ Ok after →
       backed_offsets wide xs t.endian (rows_from n place c m) ≡ starts_from n place c
   rows_starts zero place c after m h f e = refl
   rows_starts (suc n) place c after m h f e =

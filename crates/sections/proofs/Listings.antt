@@ -1,85 +1,88 @@
--- One section more of a segment. Assumes nothing.
-use Rattle.std.proofs.Common.{◌≡◌, ℕ, suc, ◌+◌, ◌-◌, ◌<◌, ◌≤◌, Bool, true, false, List, is_some, Some, None, Ok, Err, Option, Result, unwrap_or, sym, refl, ap, ◌∙◌, arith}
-use Rattle.std.proofs.lemmas.Bool.{cond_both, cond-true, cond-false}
+-- One turn of an iterator over the sections of a table. Assumes nothing.
+use Rattle.std.proofs.Common.{◌≡◌, ℕ, zero, suc, ◌+◌, ◌-◌, ◌<◌, ◌≤◌, Bool, List, length, Some, None, Ok, Err, Option, Result, unwrap_or, sym, refl, ap, ◌∙◌, arith}
+use Rattle.std.proofs.lemmas.Bool.{cond-false, le-ltb}
 use Rattle.source.specs.declared.refusal.Reason.TheVariants.{SectionsPastCommand, SectionPastSegment}
 use Rattle.source.specs.declared.refusal.Refusal.{Refusal}
 use Rattle.source.specs.Refusals.{refusal}
-use Rattle.list.specs.Contents.{Contents, has_room, added, pushed}
+use Rattle.list.specs.Contents.{Contents, free, pushed}
 use Rattle.fields.specs.declared.section.Section.{Section}
 use Rattle.fields.specs.Records.{section_at, section_size}
 use Rattle.sections.specs.declared.offset.SectionOffsets.{SectionOffsets}
 use Rattle.sections.specs.declared.record.SectionRecord.{SectionRecord}
 use Rattle.sections.specs.declared.record.SectionTable.{SectionTable}
-use Rattle.sections.specs.Listings.{given_section, given_start, record_of, checked, filled}
+use Rattle.sections.specs.declared.section_iter.SectionIter.{SectionIter}
+use Rattle.sections.specs.Listings.{given_section, given_start, record_of, checked, filled, past, GivesSection}
 use Rattle.sections.specs.Offsets.{next_start, next_offsets}
 
-no_start : (o : Option ℕ) (e : Refusal) (r : Result SectionOffsets Refusal) → is_some o ≡ false → given_start o e r ≡ Err e
-no_start None e r h = refl
-no_start (Some s) e r h = absurd (let z : ◌≡◌ {A = ℕ} 0 1 = cc in omega arith)
+-- with no room, the list stays as it is
+pub filled_full : (wide : Bool) (xs : List ℕ) (t : SectionTable) (n place : ℕ) (c : SectionOffsets) (l : Contents SectionRecord) → free l ≡ 0 → filled wide xs t n place c l ≡ l
+filled_full wide xs t zero place c l h = refl
+filled_full wide xs t (suc n) place c l h =
+    let full : length l.slots ≤ l.count = omega arith in
+    let f : Section → Contents SectionRecord =
+    λ x. filled wide xs t n (place + section_size wide) (next_offsets c x) (pushed l (record_of xs t place x (l.count + 1) (unwrap_or (next_start c x) 0))) in
+    elim (section_at wide xs place t.endian) as (λ o. given_section o l f ≡ l) [
+      | None ↦ refl
+      | Some x ↦
+          ap (filled wide xs t n (place + section_size wide) (next_offsets c x)) (cond-false _ _ _ (le-ltb _ _ full))
+          ∙ filled_full wide xs t n (place + section_size wide) (next_offsets c x) l h
+    ]
 
-a_start : (o : Option ℕ) (e : Refusal) (r : Result SectionOffsets Refusal) → is_some o ≡ true → given_start o e r ≡ r
-a_start None e r h = absurd (let z : ◌≡◌ {A = ℕ} 0 1 = cc in omega arith)
-a_start (Some s) e r h = refl
+module _ {S W : Type 0} (wide : Bool) (bytes : S → List ℕ) where
+  -- what is left to check, and to list
+  abbrev pub to_check : SectionIter S W → SectionOffsets → Result SectionOffsets Refusal
+  to_check i c = checked wide (bytes i.source.now) i.table i.left i.place c
 
--- where there is room, a record may be given by the number that it will have
-pub pushed_as : {X : Type 0} (l : Contents X) (f : ℕ → X) (n m : ℕ) → (has_room l ≡ true → n ≡ m) → pushed l (f n) ≡ pushed l (f m)
-pushed_as l f n m h =
-    cond_both (has_room l) (added l (f n)) l (λ z. z ≡ pushed l (f m))
-    (λ e. ap (λ k. added l (f k)) (h e) ∙ sym (cond-true (has_room l) (added l (f m)) l e)) (λ e. sym (cond-false (has_room l) (added l (f m)) l e))
+  abbrev pub to_list : SectionIter S W → SectionOffsets → Contents SectionRecord → Contents SectionRecord
+  to_list i c l = filled wide (bytes i.source.now) i.table i.left i.place c l
 
-module _ (wide : Bool) (xs : List ℕ) (t : SectionTable) (n i place : ℕ) (c : SectionOffsets) where
-  abbrev next : ℕ
-  next = place + section_size wide
+  one_left : (i : SectionIter S W) → 0 < i.left → i.left ≡ suc (i.left - 1)
+  one_left i h = omega arith
 
-  abbrev rest : Section → Result SectionOffsets Refusal
-  rest x = checked wide xs t (n - (i + 1)) next (next_offsets c x)
+  module _ (i j : SectionIter S W) (c : SectionOffsets) where
+    abbrev xs : List ℕ
+    xs = bytes i.source.now
 
-  one_left : i < n → n - i ≡ suc (n - (i + 1))
-  one_left h = omega arith
+    abbrev at : Option Section
+    at = section_at wide xs i.place i.table.endian
 
-  checked-given : i < n → checked wide xs t (n - i) place c ≡ checked wide xs t (suc (n - (i + 1))) place c
-  checked-given h = ap (λ k. checked wide xs t k place c) (one_left h)
+    -- of a section, the rest is checked
+    check_turn : (o : Option Section) → 0 < i.left → at ≡ o →
+        to_check i c ≡ given_section o (Err (refusal SectionsPastCommand i.table.command))
+        (λ x. given_start (next_start c x) (refusal SectionPastSegment i.place) (checked wide xs i.table (i.left - 1) (i.place + section_size wide) (next_offsets c x)))
+    check_turn o h e =
+        ap (λ k. checked wide xs i.table k i.place c) (one_left i h)
+        ∙ ap
+        (λ o. given_section o (Err (refusal SectionsPastCommand i.table.command))
+        (λ x. given_start (next_start c x) (refusal SectionPastSegment i.place) (checked wide xs i.table (i.left - 1) (i.place + section_size wide) (next_offsets c x)))) e
 
-  abbrev by_section : Option Section → Result SectionOffsets Refusal
-  by_section o = given_section o (Err (refusal SectionsPastCommand t.command)) (λ x. given_start (next_start c x) (refusal SectionPastSegment place) (rest x))
+    pub check_refused : (e : Refusal) → GivesSection wide bytes i (Some (Err e)) j → to_check i c ≡ Err e
+    check_refused e h = check_turn None h.0 h.1.0 ∙ ap Err (sym h.1.1)
 
-  pub checked_none : n ≤ i → checked wide xs t (n - i) place c ≡ Ok c
-  checked_none h = let z : n - i ≡ 0 = omega arith in ap (λ k. checked wide xs t k place c) z
+    pub check_past : (p : ℕ) (x : Section) → GivesSection wide bytes i (Some (Ok (p, x))) j → next_start c x ≡ None → to_check i c ≡ Err (refusal SectionPastSegment p)
+    check_past p x h n = let t = check_turn (Some x) h.0 h.1.0 in rw n at t ∙ ap (λ q. Err (refusal SectionPastSegment q)) (sym h.1.1)
 
-  pub checked_past : i < n → section_at wide xs place t.endian ≡ None → checked wide xs t (n - i) place c ≡ Err (refusal SectionsPastCommand t.command)
-  checked_past h e = checked-given h ∙ ap by_section e
+    pub check_more : (p s : ℕ) (x : Section) (c' : SectionOffsets) → GivesSection wide bytes i (Some (Ok (p, x))) j → next_start c x ≡ Some s → c' ≡ next_offsets c x →
+        to_check j c' ≡ to_check i c
+    check_more p s x c' h n o = let t = check_turn (Some x) h.0 h.1.0 in ap (λ k. to_check k c') h.1.3 ∙ ap (to_check (past wide i)) o ∙ sym (rw n at t)
 
-  pub checked_refused : (x : Section) → i < n → section_at wide xs place t.endian ≡ Some x → is_some (next_start c x) ≡ false →
-      checked wide xs t (n - i) place c ≡ Err (refusal SectionPastSegment place)
-  checked_refused x h e s = checked-given h ∙ ap by_section e ∙ no_start (next_start c x) _ (rest x) s
+    module _ (l : Contents SectionRecord) where
+      list_turn : (o : Option Section) → 0 < i.left → at ≡ o →
+          to_list i c l ≡ given_section o l
+          (λ x. filled wide xs i.table (i.left - 1) (i.place + section_size wide) (next_offsets c x) (pushed l (record_of xs i.table i.place x (l.count + 1) (unwrap_or (next_start c x) 0))))
+      list_turn o h e =
+          ap (λ k. filled wide xs i.table k i.place c l) (one_left i h)
+          ∙ ap
+          (λ o. given_section o l
+          (λ x. filled wide xs i.table (i.left - 1) (i.place + section_size wide) (next_offsets c x) (pushed l (record_of xs i.table i.place x (l.count + 1) (unwrap_or (next_start c x) 0))))) e
 
-  pub checked_more : (x : Section) (size : ℕ) (c' : SectionOffsets) → i < n → section_at wide xs place t.endian ≡ Some x → is_some (next_start c x) ≡ true →
-      size ≡ section_size wide → c' ≡ next_offsets c x → checked wide xs t (n - (i + 1)) (place + size) c' ≡ checked wide xs t (n - i) place c
-  checked_more x size c' h e s z o =
-      ap (λ k. checked wide xs t (n - (i + 1)) (place + k) c') z
-      ∙ ap (checked wide xs t (n - (i + 1)) next) o
-      ∙ sym (checked-given h ∙ ap by_section e ∙ a_start (next_start c x) _ (rest x) s)
+      pub list_refused : (e : Refusal) → GivesSection wide bytes i (Some (Err e)) j → to_list i c l ≡ l
+      list_refused e h = list_turn None h.0 h.1.0
 
-  module _ (l : Contents SectionRecord) where
-    abbrev listed : Section → Contents SectionRecord
-    listed x = pushed l (record_of xs t place x (l.count + 1) (unwrap_or (next_start c x) 0))
-
-    abbrev list_by_section : Option Section → Contents SectionRecord
-    list_by_section o = given_section o l (λ x. filled wide xs t (n - (i + 1)) next (next_offsets c x) (listed x))
-
-    filled-given : i < n → filled wide xs t (n - i) place c l ≡ filled wide xs t (suc (n - (i + 1))) place c l
-    filled-given h = ap (λ k. filled wide xs t k place c l) (one_left h)
-
-    pub filled_none : n ≤ i → filled wide xs t (n - i) place c l ≡ l
-    filled_none h = let z : n - i ≡ 0 = omega arith in ap (λ k. filled wide xs t k place c l) z
-
-    pub filled_past : i < n → section_at wide xs place t.endian ≡ None → filled wide xs t (n - i) place c l ≡ l
-    filled_past h e = filled-given h ∙ ap list_by_section e
-
-    pub filled_more : (x : Section) (size : ℕ) (c' : SectionOffsets) (l' : Contents SectionRecord) → i < n → section_at wide xs place t.endian ≡ Some x →
-        size ≡ section_size wide → c' ≡ next_offsets c x → l' ≡ listed x → filled wide xs t (n - (i + 1)) (place + size) c' l' ≡ filled wide xs t (n - i) place c l
-    filled_more x size c' l' h e z o p =
-        ap (λ k. filled wide xs t (n - (i + 1)) (place + k) c' l') z
-        ∙ ap (λ k. filled wide xs t (n - (i + 1)) next k l') o
-        ∙ ap (filled wide xs t (n - (i + 1)) next (next_offsets c x)) p
-        ∙ sym (filled-given h ∙ ap list_by_section e)
+      pub list_more : (p : ℕ) (x : Section) (c' : SectionOffsets) (l' : Contents SectionRecord) → GivesSection wide bytes i (Some (Ok (p, x))) j → c' ≡ next_offsets c x →
+          l' ≡ pushed l (record_of xs i.table p x (l.count + 1) (unwrap_or (next_start c x) 0)) → to_list j c' l' ≡ to_list i c l
+      list_more p x c' l' h o e =
+          ap (λ k. to_list k c' l') h.1.3
+          ∙ ap (λ k. to_list (past wide i) k l') o
+          ∙ ap (to_list (past wide i) (next_offsets c x)) (e ∙ ap (λ q. pushed l (record_of xs i.table q x (l.count + 1) (unwrap_or (next_start c x) 0))) h.1.1)
+          ∙ sym (list_turn (Some x) h.0 h.1.0)

@@ -1,34 +1,34 @@
--- A query that begins with a text, and the name that it then means. Assumes nothing.
-use Rattle.std.proofs.Common.{◌≡◌, ℕ, ◌-◌, ◌<◌, ◌≤◌, Bool, true, false, ◌⊎◌, List, ◌++◌, length, get_or, take, drop, codes, Decides, sym, refl, ap, ◌∙◌, inl, inr, arith, length-drop, take_all}
-use Rattle.std.proofs.lemmas.Slice.Eq.{bytes_eq-Decides}
+-- The names that a query means. Assumes nothing.
+use Rattle.std.proofs.Common.{◌≡◌, ℕ, ◌-◌, ◌<◌, ◌≤◌, Bool, List, ◌++◌, length, get_or, arith, length-drop, take_all, Some, None, Option, MatchOption, ◌≢◌, Bor, take, drop, codes, Decides, sym, refl, ap, ◌∙◌}
+use Rattle.std.specs.Option.{option_eq}
+use Rattle.std.specs.Str.{bytes_eq}
+use Rattle.std.proofs.lemmas.Slice.Eq.{bytes_eq-Decides, slice_eq-Decides}
 use Rattle.std.proofs.lemmas.List.Prefix.{front_rest, front_from_reads}
-use Rattle.std.proofs.lemmas.List.{take-append-drop, take_at, drop_at}
+use Rattle.std.proofs.lemmas.List.{append_cancel_left, take-append-drop, take_at, drop_at}
 use Rattle.std.proofs.lemmas.Bool.{both_ways, and_parts, and_from}
-use Rattle.std.proofs.lemmas.Bool.Decides.{Decides-or}
+use Rattle.std.proofs.lemmas.Bool.Decides.{Decides-eqb, Decides-or, same_from_decides}
 use Rattle.sections.specs.Queries.{Led, Matching, led, matching}
 
+-- a query that reads as a text is that text and then the rest
 pub begun : (q p : List ℕ) → length p ≤ length q → ((i : ℕ) → i < length p → get_or q i 0 ≡ get_or p i 0) → q ≡ p ++ take (length q - length p) (drop (length p) q)
 begun q p h r =
     front_from_reads 0 q p h r
     ∙ ap (λ x. p ++ x) (sym (take_all (length q - length p) (drop (length p) q) (omega (arith, length-drop (length p) q))))
 
--- a test of the name that a query means decides that it is meant
-pub decided : (q p front name rest part : List ℕ) (n : ℕ) (r : Bool) → q ≡ p ++ rest → part ≡ take n rest → Decides r (name ≡ front ++ part) → Decides r (Led p front n q name)
-decided q p front name rest part n r e k d = (
-  λ t. (rest, e, d.0 t ∙ ap (λ x. front ++ x) k),
-  λ h. d.1 (h.2 ∙ ap (λ x. front ++ take n x) (sym (front_rest q p h.0 h.1) ∙ front_rest q p rest e) ∙ ap (λ x. front ++ x) (sym k)),
-)
+-- a test of what follows in the name decides that it goes on so
+pub followed : (has rest : List ℕ) (room : ℕ) (name : List ℕ) (tail : Option (Bor (List ℕ))) (part : Bor (List ℕ)) (r : Bool) →
+    MatchOption tail ((x : List ℕ) → name ≢ has ++ x) (λ t. name ≡ has ++ t.now) → part.now ≡ take room rest →
+    r ≡ option_eq (λ x y. bytes_eq x.now y.now) tail (Some part) → Decides r (name ≡ has ++ take room rest)
+followed has rest room name None part r f k t = (λ u. absurd (both_ways r t u), λ h. absurd (f _ h))
+followed has rest room name (Some tail) part r f k t =
+    let d = slice_eq-Decides Decides-eqb tail.now part.now r t in
+    (λ u. f ∙ ap (λ x. has ++ x) (d.0 u ∙ k), λ h. d.1 (append_cancel_left has _ _ (sym f ∙ h) ∙ sym k))
 
-pub first_of : {r : Bool} {P Q R : Type 0} → Decides r P → r ≡ true → Decides true (P ⊎ (Q ⊎ R))
-first_of d e = (λ _. inl (d.0 e), λ _. refl)
-
-pub second_of : {s : Bool} {P Q R : Type 0} → Decides s Q → s ≡ true → Decides true (P ⊎ (Q ⊎ R))
-second_of d e = (λ _. inr (inl (d.0 e)), λ _. refl)
-
-pub third_of : {r s t : Bool} {P Q R : Type 0} → Decides r P → r ≡ false → Decides s Q → s ≡ false → Decides t R → Decides t (P ⊎ (Q ⊎ R))
-third_of {r} {s} d e d' e' f = (
-  λ h. inr (inr (f.0 h)),
-  λ m. elim m [ inl p ↦ absurd (both_ways r e (d.1 p)) | inr n ↦ elim n [ inl q ↦ absurd (both_ways s e' (d'.1 q)) | inr z ↦ f.1 z ] ],
+-- and so, that the query means the name
+pub decided : (asked has rest : List ℕ) (room : ℕ) (query name : List ℕ) (r : Bool) → query ≡ asked ++ rest → Decides r (name ≡ has ++ take room rest) → Decides r (Led asked has room query name)
+decided asked has rest room query name r e d = (
+  λ t. (rest, e, d.0 t),
+  λ h. d.1 (h.2 ∙ ap (λ x. has ++ take room x) (sym (front_rest query asked h.0 h.1) ∙ front_rest query asked rest e)),
 )
 
 led_decides : (asked has : List ℕ) (room : ℕ) (query name : List ℕ) → Decides (led asked has room query name) (Led asked has room query name)
@@ -45,7 +45,11 @@ led_decides asked has room query name = (
       ((bytes_eq-Decides name _).1 (h.2 ∙ ap (λ x. has ++ take room x) (sym rest))),
 )
 
-pub matching_decides : (query name : List ℕ) → Decides (matching query name) (Matching query name)
+matching_decides : (query name : List ℕ) → Decides (matching query name) (Matching query name)
 unfolding matching
 matching_decides query name =
     Decides-or _ _ (bytes_eq-Decides name query) (Decides-or _ _ (led_decides (codes ".") (codes "__") 14 query name) (led_decides (codes ".debug_") (codes "__zdebug_") 7 query name))
+
+-- a test that decides it is the test
+pub is_matching : (query name : List ℕ) (r : Bool) → Decides r (Matching query name) → r ≡ matching query name
+is_matching query name r d = same_from_decides r (matching query name) d (matching_decides query name)

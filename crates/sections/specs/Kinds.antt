@@ -1,8 +1,6 @@
 -- The kind of a section, as its type, flags and segment say. Assumes nothing.
-use Rattle.std.specs.Prelude.{ℕ, Bool, false, cond, not, ◌||◌, List, [], ◌∷◌, codes, ◌==◌, bit_and, nat_lt}
+use Rattle.std.specs.Prelude.{ℕ, Bool, false, cond, not, ◌||◌, List, [], ◌∷◌, Some, None, codes, ◌==◌, bit_and, Option, nat_lt}
 use Rattle.std.specs.Str.{bytes_eq}
-use Rattle.sections.specs.declared.kind.Class.{Class}
-use Rattle.sections.specs.declared.kind.Class.TheVariants.{Is, ByFlags}
 use Rattle.sections.specs.declared.kind.SectionKind.{SectionKind}
 use Rattle.sections.specs.declared.kind.SectionKind.TheVariants.{Unknown, Text, Data, ReadOnlyData, ReadOnlyString, UninitializedData, Tls, UninitializedTls, TlsVariables, Debug}
 
@@ -10,19 +8,19 @@ abbrev pub one_of : List ℕ → ℕ → Bool
 one_of [] t = false
 one_of (x ∷ xs) t = t == x || one_of xs t
 
--- which types have which kind; of the other types, the flags and the segment decide
-abbrev pub class_of : ℕ → Class
+-- which types have which kind; of the other types (none) the flags and the segment decide
+abbrev pub class_of : ℕ → Option SectionKind
 class_of t =
-    cond (nat_lt 0x16 t) (Is Unknown)
-    (cond (one_of (0x01 ∷ 0x0c ∷ []) t) (Is UninitializedData)
-    (cond (one_of (0x02 ∷ []) t) (Is ReadOnlyString)
-    (cond (one_of (0x03 ∷ 0x04 ∷ 0x05 ∷ 0x0e ∷ []) t) (Is ReadOnlyData)
-    (cond (one_of (0x08 ∷ []) t) (Is Text)
-    (cond (one_of (0x11 ∷ []) t) (Is Tls)
-    (cond (one_of (0x12 ∷ []) t) (Is UninitializedTls)
-    (cond (one_of (0x13 ∷ []) t) (Is TlsVariables)
-    (cond (one_of (0x0f ∷ []) t) (Is Unknown)
-    ByFlags))))))))
+    cond (nat_lt 0x16 t) (Some Unknown)
+    (cond (one_of (0x01 ∷ 0x0c ∷ []) t) (Some UninitializedData)
+    (cond (one_of (0x02 ∷ []) t) (Some ReadOnlyString)
+    (cond (one_of (0x03 ∷ 0x04 ∷ 0x05 ∷ 0x0e ∷ []) t) (Some ReadOnlyData)
+    (cond (one_of (0x08 ∷ []) t) (Some Text)
+    (cond (one_of (0x11 ∷ []) t) (Some Tls)
+    (cond (one_of (0x12 ∷ []) t) (Some UninitializedTls)
+    (cond (one_of (0x13 ∷ []) t) (Some TlsVariables)
+    (cond (one_of (0x0f ∷ []) t) (Some Unknown)
+    None))))))))
 
 -- some bit of the mask is set
 abbrev pub meets : ℕ → ℕ → Bool
@@ -32,9 +30,9 @@ meets flags mask = not (bit_and flags mask == 0)
 abbrev pub type_of : ℕ → ℕ
 type_of flags = bit_and flags 0xff
 
-abbrev pub kind_by_class : Class → ℕ → Bool → SectionKind
-kind_by_class (Is k) flags read_only = k
-kind_by_class ByFlags flags read_only = cond (meets flags 0x8000_0400) Text (cond read_only ReadOnlyData Data)
+abbrev pub kind_by_class : Option SectionKind → ℕ → Bool → SectionKind
+kind_by_class (Some k) flags read_only = k
+kind_by_class None flags read_only = cond (meets flags 0x8000_0400) Text (cond read_only ReadOnlyData Data)
 
 abbrev pub kind_of : List ℕ → ℕ → Bool → SectionKind
 kind_of segname flags read_only =

@@ -1,6 +1,6 @@
 -- What is listed of a segment's sections. A table is where their records are and how they are read.
 -- Assumes nothing.
-use Rattle.std.specs.Prelude.{ℕ, zero, suc, ◌+◌, Bool, List as Row, Some, None, Ok, Err, codes, Option, Result}
+use Rattle.std.specs.Prelude.{◌≡◌, ℕ, zero, suc, ◌+◌, ◌-◌, ◌^◌, ◌<◌, Bool, List as Row, Some, None, Ok, Err, codes, Option, Result, MatchOption, MatchResult}
 use Rattle.std.specs.Option.{unwrap_or}
 use Rattle.std.specs.Str.{bytes_eq}
 use Rattle.source.specs.declared.refusal.Reason.TheVariants.{SectionsPastCommand, SectionPastSegment}
@@ -13,6 +13,7 @@ use Rattle.fields.specs.Records.{section_at, section_size}
 use Rattle.sections.specs.declared.offset.SectionOffsets.{SectionOffsets}
 use Rattle.sections.specs.declared.record.SectionRecord.{SectionRecord}
 use Rattle.sections.specs.declared.record.SectionTable.{SectionTable}
+use Rattle.sections.specs.declared.section_iter.SectionIter.{SectionIter}
 use Rattle.sections.specs.Kinds.{kind_of}
 use Rattle.sections.specs.Offsets.{next_start, next_offsets}
 
@@ -36,6 +37,18 @@ record_of xs t place x number start =
 abbrev pub given_section : {X : Type 0} → Option Section → X → (Section → X) → X
 given_section None other f = other
 given_section (Some x) other f = f x
+
+-- past one section of those that are left
+abbrev pub past : {S W : Type 0} → Bool → SectionIter S W → SectionIter S W
+past wide s = record { source = s.source; table = s.table; place = s.place + section_size wide; left = s.left - 1; width = s.width }
+
+-- one turn: none where no section is left; else the section at the place, with the place, which is passed; or the
+-- refusal where it is not whole
+abbrev pub GivesSection : {S W : Type 0} → Bool → (S → Row ℕ) → SectionIter S W → Option (Result (ℕ × Section) Refusal) → SectionIter S W → Type 0
+GivesSection wide bytes s r after =
+    MatchOption r (s.left ≡ 0) (λ found. (0 < s.left) × MatchResult found
+    (λ x. (section_at wide (bytes s.source.now) s.place s.table.endian ≡ Some x.1) × (x.0 ≡ s.place) × (x.0 + section_size wide < 2 ^ 64) × (after ≡ past wide s))
+    (λ e. (section_at wide (bytes s.source.now) s.place s.table.endian ≡ None) × (e ≡ refusal SectionsPastCommand s.table.command)))
 
 abbrev pub given_start : Option ℕ → Refusal → Result SectionOffsets Refusal → Result SectionOffsets Refusal
 given_start None e after = Err e

@@ -12,7 +12,6 @@ file_backed flags = not (one_of (0x01 ∷ 0x0c ∷ 0x12 ∷ []) (type_of flags))
 abbrev pub begun : ℕ → ℕ → SectionOffsets
 begun fileoff filesize =
     record {
-      beyond_4gib = nat_lt 0xffff_ffff ((fileoff + filesize) % 2 ^ 64);
       segment_end = (fileoff + filesize) % 2 ^ 64;
       previous_end = fileoff;
       wrapped = nat_le (2 ^ 64) (fileoff + filesize);
@@ -33,15 +32,18 @@ start_at c x = least_from c.previous_end x.offset % 2 ^ 64
 abbrev pub end_at : SectionOffsets → Section → ℕ
 end_at c x = (start_at c x + x.size) % 2 ^ 64
 
+-- the segment ends beyond 4 GiB
+abbrev pub beyond_4gib : SectionOffsets → Bool
+beyond_4gib c = nat_lt 0xffff_ffff c.segment_end
+
 -- the stored offset is not the whole of it
 abbrev pub placed : SectionOffsets → Section → Bool
-placed c x = c.beyond_4gib && file_backed x.flags
+placed c x = beyond_4gib c && file_backed x.flags
 
 -- past a section that was placed; a true sum may have reached 2^64
 abbrev pub onward : SectionOffsets → Section → SectionOffsets
 onward c x =
     record {
-      beyond_4gib = c.beyond_4gib;
       segment_end = c.segment_end;
       previous_end = end_at c x;
       wrapped = c.wrapped || (nat_le (2 ^ 64) (least_from c.previous_end x.offset) || nat_le (2 ^ 64) (start_at c x + x.size));

@@ -1,13 +1,13 @@
 // The kind of a section, by its segment's name and its flags.
 ghost use Rattle.std.specs.Prelude.{◌≡◌};
-ghost use Rattle.sections.specs.Kinds.{class_of, kind_of};
+ghost use Rattle.sections.specs.Kinds.{class_of, type_of, kind_of};
 
-use crate::text::same_bytes;
 use std::fmt;
 
 // What a section holds.
-#[derive(Clone, Copy, PartialEq, Eq, Debug)]
+#[derive(Clone, Copy, PartialEq, Eq, Debug, Default)]
 pub enum SectionKind {
+    #[default]
     Unknown,
     Text,
     Data,
@@ -20,54 +20,69 @@ pub enum SectionKind {
     Debug,
 }
 
+// The segment of what is for a debugger.
+const DWARF: &[u8] = b"__DWARF";
+
+// The bits of the flags that hold the type.
+const SECTION_TYPE: u32 = 0x0000_00ff;
+
 pub const S_ATTR_PURE_INSTRUCTIONS: u32 = 0x8000_0000;
 
 pub const S_ATTR_SOME_INSTRUCTIONS: u32 = 0x0000_0400;
 
 pub const S_ATTR_DEBUG: u32 = 0x0200_0000;
 
-// What a section's type says: its kind, or that the flags and the segment decide.
-#[derive(Clone, Copy, PartialEq, Eq, Debug)]
-pub enum Class {
-    Is(SectionKind),
-    ByFlags,
-}
+// The section types whose sections have no bytes in the file.
+pub const S_ZEROFILL: u8 = 0x01;
 
-// The class of each section type, from S_REGULAR to S_INIT_FUNC_OFFSETS.
-const CLASSES: [Class; 23] = [
-    Class::ByFlags,
-    Class::Is(SectionKind::UninitializedData),
-    Class::Is(SectionKind::ReadOnlyString),
-    Class::Is(SectionKind::ReadOnlyData),
-    Class::Is(SectionKind::ReadOnlyData),
-    Class::Is(SectionKind::ReadOnlyData),
-    Class::ByFlags,
-    Class::ByFlags,
-    Class::Is(SectionKind::Text),
-    Class::ByFlags,
-    Class::ByFlags,
-    Class::ByFlags,
-    Class::Is(SectionKind::UninitializedData),
-    Class::ByFlags,
-    Class::Is(SectionKind::ReadOnlyData),
-    Class::Is(SectionKind::Unknown),
-    Class::ByFlags,
-    Class::Is(SectionKind::Tls),
-    Class::Is(SectionKind::UninitializedTls),
-    Class::Is(SectionKind::TlsVariables),
-    Class::ByFlags,
-    Class::ByFlags,
-    Class::ByFlags,
+pub const S_GB_ZEROFILL: u8 = 0x0c;
+
+pub const S_THREAD_LOCAL_ZEROFILL: u8 = 0x12;
+
+// The kind that each section type says, from S_REGULAR to S_INIT_FUNC_OFFSETS, or none where the
+// flags and the segment decide. One fixed table of all types is the form that the design names.
+const CLASSES: [Option<SectionKind>; 23] = [
+    None,
+    Some(SectionKind::UninitializedData),
+    Some(SectionKind::ReadOnlyString),
+    Some(SectionKind::ReadOnlyData),
+    Some(SectionKind::ReadOnlyData),
+    Some(SectionKind::ReadOnlyData),
+    None,
+    None,
+    Some(SectionKind::Text),
+    None,
+    None,
+    None,
+    Some(SectionKind::UninitializedData),
+    None,
+    Some(SectionKind::ReadOnlyData),
+    Some(SectionKind::Unknown),
+    None,
+    Some(SectionKind::Tls),
+    Some(SectionKind::UninitializedTls),
+    Some(SectionKind::TlsVariables),
+    None,
+    None,
+    None,
 ];
 
-// The class of a section type; types that the format does not have are unknown.
-pub fn class_of(t: u8) -> Class
+// The type of a section with these flags.
+pub(crate) fn type_of(flags: u32) -> u8
+    ensures { result ≡ type_of flags }
+{
+    (flags & SECTION_TYPE) as u8
+}
+
+// The kind that a section type says, or none where the flags and the segment decide; types that
+// the format does not have are unknown.
+pub fn class_of(t: u8) -> Option<SectionKind>
     ensures { result ≡ class_of t }
 {
-    if t > 0x16 {
-        Class::Is(SectionKind::Unknown)
+    if usize::from(t) < CLASSES.len() {
+        CLASSES[usize::from(t)]
     } else {
-        CLASSES[t as usize]
+        Some(SectionKind::Unknown)
     }
 }
 
@@ -75,43 +90,35 @@ pub fn class_of(t: u8) -> Class
 pub fn kind_of(segname: &[u8], flags: u32, read_only: bool) -> SectionKind
     ensures { result ≡ kind_of segname.now flags read_only }
 {
-    if same_bytes(segname, b"__DWARF") {
+    if segname == DWARF {
         return SectionKind::Debug;
     }
     if flags & S_ATTR_DEBUG != 0 {
         return SectionKind::Unknown;
     }
-    match class_of((flags & 0xff) as u8) {
-        Class::Is(kind) => kind,
-        Class::ByFlags => {
-            if flags & (S_ATTR_PURE_INSTRUCTIONS | S_ATTR_SOME_INSTRUCTIONS) != 0 {
-                SectionKind::Text
-            } else if read_only {
-                SectionKind::ReadOnlyData
-            } else {
-                SectionKind::Data
-            }
+    match class_of(type_of(flags)) {
+        Some(kind) => kind,
+        None if flags & (S_ATTR_PURE_INSTRUCTIONS | S_ATTR_SOME_INSTRUCTIONS) != 0 => {
+            SectionKind::Text
         }
+        None if read_only => SectionKind::ReadOnlyData,
+        None => SectionKind::Data,
     }
 }
 
 impl fmt::Display for SectionKind {
     fn fmt<W: fmt::Write>(&self, f: &mut fmt::Formatter<W>) -> fmt::Result {
-        f.pad(kind_name(*self))
-    }
-}
-
-fn kind_name(kind: SectionKind) -> &'static str {
-    match kind {
-        SectionKind::Unknown => "Unknown",
-        SectionKind::Text => "Text",
-        SectionKind::Data => "Data",
-        SectionKind::ReadOnlyData => "ReadOnlyData",
-        SectionKind::ReadOnlyString => "ReadOnlyString",
-        SectionKind::UninitializedData => "UninitializedData",
-        SectionKind::Tls => "Tls",
-        SectionKind::UninitializedTls => "UninitializedTls",
-        SectionKind::TlsVariables => "TlsVariables",
-        SectionKind::Debug => "Debug",
+        f.pad(match self {
+            SectionKind::Unknown => "Unknown",
+            SectionKind::Text => "Text",
+            SectionKind::Data => "Data",
+            SectionKind::ReadOnlyData => "ReadOnlyData",
+            SectionKind::ReadOnlyString => "ReadOnlyString",
+            SectionKind::UninitializedData => "UninitializedData",
+            SectionKind::Tls => "Tls",
+            SectionKind::UninitializedTls => "UninitializedTls",
+            SectionKind::TlsVariables => "TlsVariables",
+            SectionKind::Debug => "Debug",
+        })
     }
 }

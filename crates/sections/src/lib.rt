@@ -8,4 +8,4 @@ pub mod listing;
 pub mod offset;
 pub mod query;
 pub mod record;
-pub mod text;
+mod section_iter;

@@ -3,29 +3,20 @@
 ghost use Rattle.std.specs.Prelude.{◌≡◌, ◌++◌, take, codes, Decides};
 ghost use Rattle.sections.specs.Queries.{Led, Matching, matching};
 
-// The first bytes of s, n at most.
-fn cut(s: &[u8], n: usize) -> &[u8]
-    ensures { result.now ≡ take n s.now }
+// Whether the name begins with `has` and goes on as the rest of a query does, for `room` bytes at most.
+fn goes_on(name: &[u8], has: &[u8], rest: &[u8], room: usize) -> bool
+    ensures { Decides result (name.now ≡ has.now ++ take room rest.now) }
 {
-    if s.len() > n { &s[0..n] } else { s }
+    name.strip_prefix(has) == Some(&rest[..room.min(rest.len())])
 }
 
-// Whether a name is one text and then another.
-fn joins(name: &[u8], front: &[u8], rest: &[u8]) -> bool
-    ensures { Decides result (name.now ≡ front.now ++ rest.now) }
-{
-    match name.strip_prefix(front) {
-        Some(tail) => tail == rest,
-        None => false,
-    }
-}
-
-// `.text` means `__text`.
+// `.text` means `__text`. The dot is taken off by a pattern, as the design has it, and a pattern is no
+// parameter: so there are two functions, which share what follows.
 fn dotted(query: &[u8], name: &[u8]) -> bool
     ensures { Decides result (Led (codes ".") (codes "__") 14 query.now name.now) }
 {
     match query {
-        [b'.', rest @ ..] => joins(name, b"__", cut(rest, 14)),
+        [b'.', rest @ ..] => goes_on(name, b"__", rest, 14),
         _ => false,
     }
 }
@@ -35,11 +26,9 @@ fn zipped(query: &[u8], name: &[u8]) -> bool
     ensures { Decides result (Led (codes ".debug_") (codes "__zdebug_") 7 query.now name.now) }
 {
     match query {
-        [b'.', b'd', b'e', b'b', b'u', b'g', b'_', rest @ ..] => joins(
-            name,
-            b"__zdebug_",
-            cut(rest, 7),
-        ),
+        [b'.', b'd', b'e', b'b', b'u', b'g', b'_', rest @ ..] => {
+            goes_on(name, b"__zdebug_", rest, 7)
+        }
         _ => false,
     }
 }
@@ -49,11 +38,5 @@ pub fn name_matches(query: &[u8], name: &[u8]) -> bool
     ensures value { result ≡ matching query.now name.now }
     ensures meant { Decides result (Matching query.now name.now) }
 {
-    if name == query {
-        return true;
-    }
-    if dotted(query, name) {
-        return true;
-    }
-    zipped(query, name)
+    name == query || dotted(query, name) || zipped(query, name)
 }

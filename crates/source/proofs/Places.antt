@@ -1,9 +1,10 @@
 -- The byte at a place of a list that is made of others. Assumes nothing.
-use Rattle.std.proofs.Common.{◌≡◌, ℕ, ◌+◌, ◌-◌, ◌<◌, ◌≤◌, List, ◌++◌, length, get_or, take, drop, replicate, Some, None, Option, unwrap_or, sym, refl, ap, ◌∙◌, inl, inr, arith, length-append, length-drop, length-take, Bor}
+use Rattle.std.proofs.Common.{◌≡◌, ℕ, suc, ◌+◌, ◌-◌, ◌<◌, ◌≤◌, ◌==◌, List, [], ◌∷◌, ◌++◌, length, get_or, take, drop, replicate, Some, None, Option, unwrap_or, sym, refl, ap, ◌∙◌, inl, inr, arith, length-append, length-drop, length-take, Bor}
 use lib.ListN.{length-replicate}
-use Rattle.std.proofs.lemmas.List.{get_or-take, get_or-drop, get_or_append_left, get_or-append_right, get_or-replicate, get_or_past, drop-take, take-take, drop-drop}
+use Rattle.std.proofs.lemmas.List.{get_or-take, get_or-drop, get_or_append_left, get_or-append_right, get_or-replicate, get_or_past, drop-take, take-take, drop-drop, drop_more, nil_from_length}
 use Rattle.std.proofs.lemmas.Bool.Decides.{nat_tests}
-use Rattle.std.proofs.lemmas.Bool.{cases_lt}
+use Rattle.std.proofs.lemmas.Bool.{cases_lt, cond-true, cond-false, eq-eqb, ne_eqb}
+use Rattle.std.specs.List.{position_from}
 use Rattle.source.specs.Bytes.{byte_at, run, HandsOut}
 
 pub byte_at_in : (xs : List ℕ) (p : ℕ) → p < length xs → byte_at xs p ≡ Some (get_or xs p 0)
@@ -72,9 +73,6 @@ handed_inner xs from most start count (Some x) h z l =
 pub byte_at_some : (xs : List ℕ) (p b : ℕ) → byte_at xs p ≡ Some b → (p < length xs) × (get_or xs p 0 ≡ b)
 byte_at_some xs p b e = grind (arith, nat_tests)
 
-pub byte_at_none : (xs : List ℕ) (p : ℕ) → byte_at xs p ≡ None → length xs ≤ p
-byte_at_none xs p e = grind (arith, nat_tests)
-
 -- a byte past the end counts as zero
 pub byte_or_zero : (xs : List ℕ) (p v : ℕ) (r : Option ℕ) → r ≡ byte_at xs p → v ≡ unwrap_or r 0 → v ≡ get_or xs p 0
 byte_or_zero xs p v r e f =
@@ -87,3 +85,20 @@ byte_or_zero xs p v r e f =
 pub run_window : (xs : List ℕ) (start end from count : ℕ) → start ≡ from → end ≡ from + count → run start (end - start) xs ≡ run from count xs
 run_window xs start end from count s e =
     let n : end - start ≡ count = omega arith in ap (λ k. take k (drop start xs)) n ∙ ap (λ k. take count (drop k xs)) s
+
+-- the first byte of a run, and the rest of it
+pub run_first : (xs : List ℕ) (p n : ℕ) → 0 < n → p < length xs → run p n xs ≡ get_or xs p 0 ∷ run (p + 1) (n - 1) xs
+run_first xs p n z h =
+    let e : n ≡ suc (n - 1) = omega arith in
+    ap (take n) (drop_more xs p 0 h) ∙ ap (λ m. take m (get_or xs p 0 ∷ drop (p + 1) xs)) e
+
+pub run_past : (xs : List ℕ) (p n : ℕ) → length xs ≤ p → run p n xs ≡ []
+run_past xs p n h = nil_from_length (run p n xs) (simp (length-take, length-drop) (omega arith))
+
+-- a search of a run finds its first byte, or goes on with the rest
+module _ (v k p n : ℕ) (xs : List ℕ) (some : 0 < n) (inside : p < length xs) where
+  pub found_first : get_or xs p 0 ≡ v → position_from (λ b. b == v) k (run p n xs) ≡ Some k
+  found_first e = ap (position_from (λ b. b == v) k) (run_first xs p n some inside) ∙ cond-true _ _ _ (eq-eqb _ _ e)
+
+  pub found_later : (get_or xs p 0 ≡ v → ⊥) → position_from (λ b. b == v) k (run p n xs) ≡ position_from (λ b. b == v) (k + 1) (run (p + 1) (n - 1) xs)
+  found_later e = ap (position_from (λ b. b == v) k) (run_first xs p n some inside) ∙ cond-false _ _ _ (ne_eqb _ _ e)

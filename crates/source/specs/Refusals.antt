@@ -39,6 +39,6 @@ level_of UnknownMember = Level.Reading
 level_of WindowPastSource = Level.Source
 level_of LengthOutOfRange = Level.Source
 
--- the refusal for a reason at a place
+-- the refusal for a reason at a place; its number and level are those of the reason
 abbrev pub refusal : Reason → ℕ → Refusal
-refusal r p = record { number = number_of r; level = level_of r; place = p }
+refusal r p = record { reason = r; place = p }

@@ -18,10 +18,10 @@ impl<A: Source + Drop, B: Source + Drop> Join<A, B> {
     pub fn new(front: A, back: B) -> Result<Join<A, B>, Refusal>
         ensures { MatchResult result (λ j. (j.front ≡ front) × (j.back ≡ back) × (length (A.Source.bytes front) + length (B.Source.bytes back) < 2 ^ 64) × (joined (A.Source.bytes front) (B.Source.bytes back) ≡ A.Source.bytes front ++ B.Source.bytes back)) (λ e. (e ≡ refusal LengthOutOfRange 0) × (2 ^ 64 ≤ length (A.Source.bytes front) + length (B.Source.bytes back))) }
     {
-        if front.len() > u64::MAX - back.len() {
-            return Err(Reason::LengthOutOfRange.at(0));
+        match front.len().checked_add(back.len()) {
+            Some(_) => Ok(Join { front, back }),
+            None => Err(Reason::LengthOutOfRange.at(0)),
         }
-        Ok(Join { front, back })
     }
 }
 

@@ -33,12 +33,9 @@ impl<'a> Source for Padded<'a> {
     }
 
     fn byte(&self, p: u64) -> Option<u8> {
-        if p < self.head.len() as u64 {
-            Some(self.head[p as usize])
-        } else if p < self.total {
-            Some(0)
-        } else {
-            None
+        match self.head.get(p as usize) {
+            Some(b) => Some(*b),
+            None => (p < self.total).then_some(0),
         }
     }
 }

@@ -14,11 +14,8 @@ pub trait PartSource: Source {
 
 impl<'a> PartSource for Plain<'a> {
     fn part(&self, start: u64, count: u64) -> Option<&[u8]> {
-        let n = self.0.len() as u64;
-        if start > n || count > n - start {
-            return None;
-        }
-        Some(&self.0[start as usize..(start + count) as usize])
+        let end = start.checked_add(count)?;
+        self.0.get(start as usize..end as usize)
     }
 }
 
@@ -30,9 +27,7 @@ impl<S: PartSource> PartSource for &S {
 
 impl<S: PartSource> PartSource for Window<S> {
     fn part(&self, start: u64, count: u64) -> Option<&[u8]> {
-        let most = self.end.saturating_sub(self.start);
-        let n = most.min(self.source.len().saturating_sub(self.start));
-        if start > n || count > n - start {
+        if !self.has(start, count) {
             return None;
         }
         // An empty part may begin at the very end, past which the sum could not be taken.

@@ -12,10 +12,6 @@ impl<'a> Source for Plain<'a> {
     }
 
     fn byte(&self, p: u64) -> Option<u8> {
-        if p < self.0.len() as u64 {
-            Some(self.0[p as usize])
-        } else {
-            None
-        }
+        self.0.get(p as usize).copied()
     }
 }

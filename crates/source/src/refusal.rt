@@ -12,32 +12,31 @@ pub enum Level {
     Reading,
 }
 
-// Why. Each reason has one number and one level.
+// Why. Each reason has one number, by which people know it, and one level.
 #[derive(Clone, Copy, PartialEq, Eq, Debug)]
 pub enum Reason {
-    ShortHeader,
-    WrongMagic,
-    ShortCommand,
-    SectionsPastCommand,
-    SectionPastSegment,
-    SymbolsPastSource,
-    ListFull,
-    FinishTooEarly,
-    UnknownNumber,
-    UnreadableName,
-    ShortFatHeader,
-    WrongFatMagic,
-    UnknownMember,
-    WindowPastSource,
-    LengthOutOfRange,
+    ShortHeader = 1,
+    WrongMagic = 2,
+    ShortCommand = 3,
+    SectionsPastCommand = 4,
+    SectionPastSegment = 5,
+    SymbolsPastSource = 6,
+    ListFull = 7,
+    FinishTooEarly = 8,
+    UnknownNumber = 9,
+    UnreadableName = 10,
+    ShortFatHeader = 11,
+    WrongFatMagic = 12,
+    UnknownMember = 13,
+    WindowPastSource = 14,
+    LengthOutOfRange = 15,
 }
 
-// A number, a level and a place. The place counts bytes from the source's start,
-// unless the reason is an unknown number: then it is that number.
+// A reason and a place. The place counts bytes from the source's start, unless the reason is an
+// unknown number: then it is that number.
 #[derive(Clone, Copy, PartialEq, Eq, Debug)]
 pub struct Refusal {
-    pub number: u8,
-    pub level: Level,
+    pub reason: Reason,
     pub place: u64,
 }
 
@@ -46,23 +45,7 @@ impl Reason {
     pub fn number(self) -> u8
         ensures { result ≡ number_of self }
     {
-        match self {
-            Reason::ShortHeader => 1,
-            Reason::WrongMagic => 2,
-            Reason::ShortCommand => 3,
-            Reason::SectionsPastCommand => 4,
-            Reason::SectionPastSegment => 5,
-            Reason::SymbolsPastSource => 6,
-            Reason::ListFull => 7,
-            Reason::FinishTooEarly => 8,
-            Reason::UnknownNumber => 9,
-            Reason::UnreadableName => 10,
-            Reason::ShortFatHeader => 11,
-            Reason::WrongFatMagic => 12,
-            Reason::UnknownMember => 13,
-            Reason::WindowPastSource => 14,
-            Reason::LengthOutOfRange => 15,
-        }
+        self as u8
     }
 
     // Who refuses for this reason.
@@ -92,10 +75,25 @@ impl Reason {
         ensures { result ≡ refusal self place }
     {
         Refusal {
-            number: self.number(),
-            level: self.level(),
+            reason: self,
             place,
         }
+    }
+}
+
+impl Refusal {
+    // The number of its reason.
+    pub fn number(self) -> u8
+        ensures { result ≡ number_of self.reason }
+    {
+        self.reason.number()
+    }
+
+    // The level of its reason.
+    pub fn level(self) -> Level
+        ensures { result ≡ level_of self.reason }
+    {
+        self.reason.level()
     }
 }
 
@@ -109,35 +107,39 @@ impl fmt::Display for Level {
     }
 }
 
-// What a number stands for.
-fn words_of(number: u8) -> &'static str {
-    match number {
-        1 => "the file is shorter than a Mach-O header",
-        2 => "the magic is not that of a Mach-O file",
-        3 => "a load command is shorter than its record",
-        4 => "the sections of a segment pass its command",
-        5 => "a section ends past its segment",
-        6 => "the symbols are outside the file",
-        7 => "a list has too few free slots",
-        8 => "the walk was to be finished before its end",
-        9 => "there is no section or symbol of that number",
-        10 => "the name of a symbol cannot be read",
-        11 => "the header or the table of a universal file is short",
-        12 => "the magic is not that of a universal file",
-        13 => "there is no member of that number",
-        14 => "a window passes its source",
-        15 => "a length is out of range",
-        _ => "unknown",
+// The reason in words.
+impl fmt::Display for Reason {
+    fn fmt<W: fmt::Write>(&self, f: &mut fmt::Formatter<W>) -> fmt::Result {
+        f.write_str(match self {
+            Reason::ShortHeader => "the file is shorter than a Mach-O header",
+            Reason::WrongMagic => "the magic is not that of a Mach-O file",
+            Reason::ShortCommand => "a load command is shorter than its record",
+            Reason::SectionsPastCommand => "the sections of a segment pass its command",
+            Reason::SectionPastSegment => "a section ends past its segment",
+            Reason::SymbolsPastSource => "the symbols are outside the file",
+            Reason::ListFull => "a list has too few free slots",
+            Reason::FinishTooEarly => "the walk was to be finished before its end",
+            Reason::UnknownNumber => "there is no section or symbol of that number",
+            Reason::UnreadableName => "the name of a symbol cannot be read",
+            Reason::ShortFatHeader => "the header or the table of a universal file is short",
+            Reason::WrongFatMagic => "the magic is not that of a universal file",
+            Reason::UnknownMember => "there is no member of that number",
+            Reason::WindowPastSource => "a window passes its source",
+            Reason::LengthOutOfRange => "a length is out of range",
+        })
     }
 }
 
 // What people read: `refused 14 (source) at 3: a window passes its source`.
 impl fmt::Display for Refusal {
     fn fmt<W: fmt::Write>(&self, f: &mut fmt::Formatter<W>) -> fmt::Result {
-        let number = self.number;
-        let level = self.level;
-        let place = self.place;
-        let words = words_of(number);
-        write!(f, "refused {number} ({level}) at {place}: {words}")
+        write!(
+            f,
+            "refused {} ({}) at {}: {}",
+            self.number(),
+            self.level(),
+            self.place,
+            self.reason
+        )
     }
 }

@@ -19,8 +19,7 @@ impl<S: Source + Drop> Window<S> {
     pub fn new(source: S, start: u64, count: u64) -> Result<Window<S>, Refusal>
         ensures { MatchResult result (λ w. (w.source ≡ source) × (w.start ≡ start) × (w.end ≡ start + count) × (start + count ≤ length (S.Source.bytes source))) (λ e. (e ≡ refusal WindowPastSource start) × (length (S.Source.bytes source) < start + count)) }
     {
-        let len = source.len();
-        if start > len || count > len - start {
+        if !source.has(start, count) {
             return Err(Reason::WindowPastSource.at(start));
         }
         Ok(Window {

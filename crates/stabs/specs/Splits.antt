@@ -1,12 +1,12 @@
 -- The split of an object file's name into a path and a member. Assumes nothing.
-use Rattle.std.specs.Prelude.{ℕ, ◌+◌, ◌-◌, cond, List, [], ◌∷◌, length, Some, None, Option, ◌==◌, slice_index}
+use Rattle.std.specs.Prelude.{ℕ, ◌+◌, ◌-◌, cond, List, length, Some, None, Option, ◌==◌, slice_index}
+use Rattle.std.specs.List.{position_from}
 use Rattle.source.specs.declared.span.Span.{Span}
 use Rattle.source.specs.Bytes.{run}
 
 -- the position of the first byte of a value, counted from k
 abbrev pub first_at : ℕ → ℕ → List ℕ → Option ℕ
-first_at k b [] = None
-first_at k b (x ∷ xs) = cond (x == b) (Some k) (first_at (k + 1) b xs)
+first_at k b xs = position_from (λ x. x == b) k xs
 
 abbrev pub span : ℕ → ℕ → Span
 span start len = record { start = start; len = len }

@@ -7,23 +7,22 @@ use crate::stab::Stab;
 use source::span::Span;
 
 // A function that was opened: its name and address.
-#[derive(Clone, Copy)]
+#[derive(Clone, Copy, PartialEq, Eq, Debug)]
 pub struct Function {
     pub name: Span,
     pub address: u64,
 }
 
 // The function that is open, and the number of the current object file.
-#[derive(Clone, Copy)]
+#[derive(Clone, Copy, PartialEq, Eq, Debug)]
 pub struct MapCursor {
     pending: Option<Function>,
     current: Option<u64>,
 }
 
-// What a stab adds to the map: nothing, an object file of a name, or an entry.
-#[derive(Clone, Copy)]
+// What a stab adds to the map: an object file of a name, or an entry.
+#[derive(Clone, Copy, PartialEq, Eq, Debug)]
 pub enum Addition {
-    Nothing,
     File(Span),
     Entry(MapEntry),
 }
@@ -40,43 +39,44 @@ impl MapCursor {
     }
 
     // Goes past a stab, where so many files are listed before it. A function that is open stays so
-    // when a file ends; a closing spends it, whether or not a file is current.
-    pub fn advance(&mut self, stab: Stab, files: u64) -> Addition
+    // when a file ends; a closing spends it, whether or not a file is current. The cursor's two parts
+    // and the stab are matched together, in place, which is the form that the design names.
+    pub fn advance(&mut self, stab: Stab, files: u64) -> Option<Addition>
         ensures answer { result ≡ told self.old stab }
         ensures after { self.new ≡ left self.old stab files }
     {
         match (self.pending, self.current, stab) {
-            (_, _, Stab::Source) | (_, _, Stab::Object(None)) => {
+            (_, _, Stab::Source | Stab::Object(None)) => {
                 self.current = None;
-                Addition::Nothing
+                None
             }
             (_, _, Stab::Object(Some(name))) => {
                 self.current = Some(files);
-                Addition::File(name)
+                Some(Addition::File(name))
             }
             (_, _, Stab::Opening(name, address)) => {
                 self.pending = Some(Function { name, address });
-                Addition::Nothing
+                None
             }
             (pending, current, Stab::Closing(size)) => {
                 self.pending = None;
-                match (pending, current) {
-                    (Some(function), Some(file)) => Addition::Entry(MapEntry {
+                pending.zip(current).map(|(function, file)| {
+                    Addition::Entry(MapEntry {
                         address: function.address,
                         size,
                         name: function.name,
                         file,
-                    }),
-                    _ => Addition::Nothing,
-                }
+                    })
+                })
             }
-            (_, Some(file), Stab::Static(name, address)) => Addition::Entry(MapEntry {
-                address,
-                size: 0,
-                name,
-                file,
+            (_, current, Stab::Static(name, address)) => current.map(|file| {
+                Addition::Entry(MapEntry {
+                    address,
+                    size: 0,
+                    name,
+                    file,
+                })
             }),
-            (_, None, Stab::Static(_, _)) | (_, _, Stab::Other) => Addition::Nothing,
         }
     }
 }

@@ -2,7 +2,7 @@
 use source::span::Span;
 
 // An object file: its path, and its member where the path is that of an archive.
-#[derive(Clone, Copy)]
+#[derive(Clone, Copy, PartialEq, Eq, Debug, Default)]
 pub struct MapFile {
     pub path: Span,
     pub member: Option<Span>,
@@ -10,7 +10,7 @@ pub struct MapFile {
 
 // A function or a static variable: its address, size and name, and the number, from 0, of the
 // object file that it came from.
-#[derive(Clone, Copy)]
+#[derive(Clone, Copy, PartialEq, Eq, Debug, Default)]
 pub struct MapEntry {
     pub address: u64,
     pub size: u64,

@@ -28,10 +28,6 @@ abbrev pub name_bytes : List ℕ → Option Span → List ℕ
 name_bytes xs (Some s) = run s.start s.len xs
 name_bytes xs None = []
 
--- how many bytes come before the first zero, where there is one
-abbrev pub first_zero : List ℕ → Option ℕ
-first_zero xs = cond (nat_lt (length (before_zero xs)) (length xs)) (Some (length (before_zero xs))) None
-
 -- a name that is there lies in the source
 abbrev pub InSource : List ℕ → Option Span → Type 0
 InSource xs (Some s) = s.start + s.len ≤ length xs

@@ -8,7 +8,7 @@ use Prim.Native.String.{String}
 use Rattle.std.specs.Str.{bytes_eq}
 use Rattle.source.specs.declared.span.Span.{Span}
 use Rattle.stabs.specs.declared.cursor.Addition.{Addition}
-use Rattle.stabs.specs.declared.cursor.Addition.TheVariants.{Nothing, File, Entry}
+use Rattle.stabs.specs.declared.cursor.Addition.TheVariants.{File, Entry}
 use Rattle.stabs.specs.declared.cursor.MapCursor.{MapCursor}
 use Rattle.stabs.specs.declared.map.MapEntry.{MapEntry}
 use Rattle.stabs.specs.declared.stab.Stab.{Stab}
@@ -23,15 +23,15 @@ pub data Example : Type 0 where
   mapped : List Stab → List MapEntry → Example
 
 -- the entry that an addition puts before others, and how many files are listed after it
-abbrev pub entered : Addition → List MapEntry → List MapEntry
-entered Nothing rest = rest
-entered (File name) rest = rest
-entered (Entry e) rest = e ∷ rest
+abbrev pub entered : Option Addition → List MapEntry → List MapEntry
+entered None rest = rest
+entered (Some (File name)) rest = rest
+entered (Some (Entry e)) rest = e ∷ rest
 
-abbrev pub files_after : Addition → ℕ → ℕ
-files_after Nothing files = files
-files_after (File name) files = files + 1
-files_after (Entry e) files = files
+abbrev pub files_after : Option Addition → ℕ → ℕ
+files_after None files = files
+files_after (Some (File name)) files = files + 1
+files_after (Some (Entry e)) files = files
 
 -- the entries that stabs add, one after another
 abbrev pub mapped_from : MapCursor → ℕ → List Stab → List MapEntry

@@ -7,5 +7,4 @@ returns-in-46 c =
     let q = c.args.query.now in
     let long : 1 ≤ length q = search rules in
     let reads : (i : ℕ) → i < 1 → get_or q i 0 ≡ get_or (codes ".") i 0 = search rules in
-    decided q (codes ".") (codes "__") c.args.name.now (take (length q - 1) (drop 1 q)) c.cut.result.now 14 c.joins.result
-    (begun q (codes ".") long reads) c.cut.ensures c.joins.ensures
+    decided (codes ".") (codes "__") (take (length q - 1) (drop 1 q)) 14 q c.args.name.now c.goes_on.result (begun q (codes ".") long reads) c.goes_on.ensures

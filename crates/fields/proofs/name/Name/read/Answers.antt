@@ -1,12 +1,7 @@
 use Rattle.std.proofs.Common.{◌≡◌, ◌+◌, ◌-◌, sym, ◌∙◌, arith, length-set}
 use Rattle.source.proofs.Places.{byte_or_zero}
-use Rattle.fields.proofs.Names.{name_past, name_ends, name_more}
+use Rattle.fields.proofs.Names.{name_ends, name_more}
 use Rattle.fields.proofs.name.Name.read.Goals as goal
-
-pub returns-then-i-rest : goal.returns-then-i-rest
-returns-then-i-rest g c =
-    let xs = g.S.Source.bytes c.args.s.now in
-    sym (name_past xs _ (c.args.p + c.loop-i.i) (16 - c.loop-i.i) (omega arith)) ∙ c.loop-i.invariant.1
 
 pub returns-then-b-eq0 : goal.returns-then-b-eq0
 returns-then-b-eq0 g c =
