@@ -43,6 +43,7 @@ fn fits<W: Width>(total: u64) -> Result<[bool; 8], Fail> {
 
 fn fit_exactly<W: Width>(rt: &impl Abort, sizes: [u64; 8]) -> Result<(), Fail> {
     for (i, size) in sizes.iter().enumerate() {
+        assert!(rt; *size > 0);
         let enough = fits::<W>(*size)?;
         assert_eq!(rt; enough.get(i), Some(&true));
         let short = fits::<W>(size.saturating_sub(1))?;

@@ -21,7 +21,7 @@ pub fn count<S: Source, W: Width>(source: &S) -> Result<u32, Refusal>
     if header.magic != W::either(FAT_MAGIC, FAT_MAGIC_64) {
         return Err(Reason::WrongFatMagic.at(0));
     }
-    let table = u64::from(header.nfat_arch) * W::either(20, 32);
+    let table = u64::from(header.nfat_arch) * FatArch::size::<W>();
     if !source.has(8, table) {
         return Err(Reason::ShortFatHeader.at(0));
     }
@@ -37,7 +37,7 @@ pub fn arch<S: Source, W: Width>(source: &S, number: u64) -> Result<FatArch, Ref
     if number >= u64::from(n) {
         return Err(Reason::UnknownMember.at(number));
     }
-    let arch = FatArch::read::<S, W>(source, 8 + number * W::either(20, 32));
+    let arch = FatArch::read::<S, W>(source, 8 + number * FatArch::size::<W>());
     arch.ok_or(Reason::ShortFatHeader.at(0))
 }
 

@@ -1,7 +1,7 @@
 // The records of a universal file, `fat_header`, `fat_arch` and `fat_arch_64` of `fat.h`.
 // All of them are big-endian.
 ghost use Rattle.std.specs.Prelude.{◌≡◌};
-ghost use Rattle.fields.specs.Records.{fat_header_at, fat_arch_at};
+ghost use Rattle.fields.specs.Records.{fat_header_at, fat_arch_at, fat_arch_size};
 
 use crate::number::Fields;
 use crate::width::Width;
@@ -39,11 +39,18 @@ pub struct FatArch {
 }
 
 impl FatArch {
+    // How many bytes the record has.
+    pub fn size<W: Width>() -> u64
+        ensures { result ≡ fat_arch_size W.Width.wide }
+    {
+        W::either(20, 32)
+    }
+
     // The record at p, exactly when all of it is there.
     pub fn read<S: Source, W: Width>(s: &S, p: u64) -> Option<FatArch>
         ensures { result ≡ fat_arch_at W.Width.wide (S.Source.bytes s.now) p }
     {
-        if !s.has(p, W::either(20, 32)) {
+        if !s.has(p, FatArch::size::<W>()) {
             return None;
         }
         let f = Fields::big_endian(s);

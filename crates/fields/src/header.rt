@@ -1,6 +1,6 @@
 // The file header, `mach_header` and `mach_header_64` of `loader.h`.
 ghost use Rattle.std.specs.Prelude.{◌≡◌};
-ghost use Rattle.fields.specs.Records.{header_at, endian_of};
+ghost use Rattle.fields.specs.Records.{header_at, header_size, endian_of};
 
 use crate::endian::Endianness;
 use crate::number::Fields;
@@ -23,11 +23,18 @@ pub struct MachHeader {
 }
 
 impl MachHeader {
+    // How many bytes the record has.
+    pub fn size<W: Width>() -> u64
+        ensures { result ≡ header_size W.Width.wide }
+    {
+        W::either(28, 32)
+    }
+
     // The header at the start of a source, exactly when all of its record is there.
     pub fn read<S: Source, W: Width>(f: Fields<S>) -> Option<MachHeader>
         ensures { result ≡ header_at W.Width.wide (S.Source.bytes f.entry.source.now) f.entry.endian }
     {
-        if !f.source.has(0, W::either(28, 32)) {
+        if !f.source.has(0, MachHeader::size::<W>()) {
             return None;
         }
         Some(MachHeader {

@@ -9,6 +9,7 @@ use crate::number::Fields;
 use source::source::Source;
 use std::fmt;
 
+// Any other file is of a kind too, since the kind is what is printed.
 #[derive(Clone, Copy, PartialEq, Eq, Debug)]
 pub enum FileKind {
     MachO32(Endianness),

@@ -16,12 +16,19 @@ pub struct Section {
 }
 
 impl Section {
+    // How many bytes the record has.
+    pub fn size<W: Width>() -> u64
+        ensures { result ≡ section_size W.Width.wide }
+    {
+        W::either(68, 80)
+    }
+
     // The section at p, exactly when all of its record is there.
     pub fn read<S: Source, W: Width>(f: Fields<S>, p: u64) -> Option<Section>
         ensures value { result ≡ section_at W.Width.wide (S.Source.bytes f.entry.source.now) p f.entry.endian }
         ensures bound { OnSome result (p + section_size W.Width.wide < 2 ^ 64) }
     {
-        if !f.source.has(p, W::either(68, 80)) {
+        if !f.source.has(p, Section::size::<W>()) {
             return None;
         }
         Some(Section {

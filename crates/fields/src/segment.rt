@@ -16,12 +16,19 @@ pub struct Segment {
 }
 
 impl Segment {
+    // How many bytes the record has.
+    pub fn size<W: Width>() -> u64
+        ensures { result ≡ segment_size W.Width.wide }
+    {
+        W::either(56, 72)
+    }
+
     // The command at p, exactly when all of its record is there.
     pub fn read<S: Source, W: Width>(f: Fields<S>, p: u64) -> Option<Segment>
         ensures value { result ≡ segment_at W.Width.wide (S.Source.bytes f.entry.source.now) p f.entry.endian }
         ensures bound { OnSome result (p + segment_size W.Width.wide < 2 ^ 64) }
     {
-        if !f.source.has(p, W::either(56, 72)) {
+        if !f.source.has(p, Segment::size::<W>()) {
             return None;
         }
         Some(Segment {

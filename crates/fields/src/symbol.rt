@@ -1,6 +1,6 @@
 // The symbol, `nlist` and `nlist_64` of `nlist.h`.
 ghost use Rattle.std.specs.Prelude.{◌≡◌};
-ghost use Rattle.fields.specs.Records.{nlist_at};
+ghost use Rattle.fields.specs.Records.{nlist_at, nlist_size};
 
 use crate::number::Fields;
 use crate::width::Width;
@@ -16,11 +16,18 @@ pub struct Nlist {
 }
 
 impl Nlist {
+    // How many bytes the record has.
+    pub fn size<W: Width>() -> u64
+        ensures { result ≡ nlist_size W.Width.wide }
+    {
+        W::either(12, 16)
+    }
+
     // The symbol at p, exactly when all of its record is there.
     pub fn read<S: Source, W: Width>(f: Fields<S>, p: u64) -> Option<Nlist>
         ensures { result ≡ nlist_at W.Width.wide (S.Source.bytes f.entry.source.now) p f.entry.endian }
     {
-        if !f.source.has(p, W::either(12, 16)) {
+        if !f.source.has(p, Nlist::size::<W>()) {
             return None;
         }
         Some(Nlist {

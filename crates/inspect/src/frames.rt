@@ -22,6 +22,7 @@ use std::fmt::Write as TextWrite;
 use std::io::{Read, Write};
 
 // How much of a library a text holds: its segments and sections, or its symbols and object map too.
+// An enum and no closure, since it is what the word of an option says.
 #[derive(Clone, Copy, PartialEq, Eq)]
 pub(crate) enum Extent {
     Sections,
@@ -118,16 +119,9 @@ impl Page {
     }
 
     fn put_files(&mut self, files: &List<MapFile>) -> anyhow::Result<()> {
-        for (i, file) in files.records().iter().enumerate() {
-            let number = i as u64;
-            writeln!(
-                self.text,
-                "{}",
-                FileText {
-                    number,
-                    file: *file
-                }
-            )?;
+        for (number, file) in (0u64..).zip(files.records()) {
+            let file = *file;
+            writeln!(self.text, "{}", FileText { number, file })?;
         }
         Ok(())
     }

@@ -13,7 +13,8 @@ use source::source::Source;
 use std::io;
 
 // What is asked of a library: its segments and sections, these with symbols and object map, the
-// section that a name means, or one table.
+// section that a name means, or one table. An enum and no closure, since it is what the words of the
+// command line say.
 #[derive(Clone, Copy)]
 pub(crate) enum Ask<'a> {
     Sections,

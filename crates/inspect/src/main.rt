@@ -88,6 +88,8 @@ fn print_halves(rt: &HostRuntime, first: &str, second: &str, ask: Ask) -> anyhow
     Ok(())
 }
 
+// Each program has the lines below for itself: no clause can say what a program prints, so no
+// library has them.
 fn usage(rt: &HostRuntime) -> anyhow::Result<()> {
     eprintln!(rt; "{USAGE}")?;
     Err(anyhow!("usage"))

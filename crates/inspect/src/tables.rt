@@ -63,10 +63,10 @@ impl<'a, S: Source> Printer<'a, S> {
 
     fn print_files(&self, files: &List<MapFile>) -> io::Result<()> {
         println!(self.rt; "  file  path(member)")?;
-        for (i, file) in files.records().iter().enumerate() {
+        for (number, file) in (0u64..).zip(files.records()) {
             let line = FileLine {
                 source: self.source,
-                number: i as u64,
+                number,
                 file: *file,
             };
             println!(self.rt; "{line}")?;

@@ -7,15 +7,11 @@ use Rattle.std.specs.List.{slice_get}
 use Rattle.source.specs.declared.refusal.Reason.TheVariants.{ListFull}
 use Rattle.source.specs.declared.refusal.Refusal.{Refusal}
 use Rattle.source.specs.Refusals.{refusal}
-use Rattle.list.specs.declared.list.List.{List}
 
 pub record Contents (X : Type 0) : Type 0 where
   pub slice : GName
   pub slots : Row X
   pub count : ℕ
-
-abbrev pub contents_of : {X : Type 0} → List X → Contents X
-contents_of l = record { slice = l.slots.ghost_name; slots = l.slots.now; count = l.count }
 
 -- an empty list over a slice
 abbrev pub empty : {X : Type 0} → MutBor (Row X) → Contents X

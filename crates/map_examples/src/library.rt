@@ -87,7 +87,7 @@ pub(crate) fn span<W: Width>(index: u64, len: u64) -> Span {
 // The place of the symbol of a number, after strings of a length.
 pub(crate) fn symbol_place<W: Width>(strings: usize, number: u64) -> u64 {
     let first = u64::from(strings_at::<W>()).saturating_add(strings as u64);
-    first.saturating_add(number.saturating_mul(W::either(12, 16)))
+    first.saturating_add(number.saturating_mul(Nlist::size::<W>()))
 }
 
 pub(crate) fn library<W: Width>(

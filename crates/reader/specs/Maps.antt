@@ -4,7 +4,7 @@ use Rattle.source.specs.declared.refusal.Reason.TheVariants.{ListFull}
 use Rattle.source.specs.declared.refusal.Refusal.{Refusal}
 use Rattle.source.specs.declared.span.Span.{Span}
 use Rattle.source.specs.Refusals.{refusal}
-use Rattle.list.specs.Contents.{Contents, contents_of, has_room, pushed}
+use Rattle.list.specs.Contents.{Contents, has_room, pushed}
 use Rattle.stabs.specs.declared.cursor.Addition.{Addition}
 use Rattle.stabs.specs.declared.cursor.Addition.TheVariants.{File, Entry}
 use Rattle.stabs.specs.declared.cursor.MapCursor.{MapCursor}
@@ -72,7 +72,7 @@ pub record MapStep : Type 0 where
 
 -- what an object map comes to after a step that answered so and left this state
 abbrev pub map_left : Result MapAnswer Refusal → MapState → ObjectMap → MapStep
-map_left answer m l = record { answer = answer; state = m; files = contents_of l.files; entries = contents_of l.entries }
+map_left answer m l = record { answer = answer; state = m; files = l.files; entries = l.entries }
 
 -- a symbol is passed only where there is room for what it adds
 abbrev pub passed_if : Result MapAnswer Refusal → MapState → MapCursor → MapState

@@ -3,7 +3,7 @@ use Rattle.std.specs.Prelude.{ℕ, ◌+◌, ◌-◌, ◌^◌, min, Bool, true, f
 use Rattle.source.specs.declared.refusal.Reason.TheVariants.{ShortHeader, WrongMagic, ListFull}
 use Rattle.source.specs.declared.refusal.Refusal.{Refusal}
 use Rattle.source.specs.Refusals.{refusal}
-use Rattle.list.specs.Contents.{Contents, contents_of, free, pushed}
+use Rattle.list.specs.Contents.{Contents, free, pushed}
 use Rattle.fields.specs.declared.endian.Endianness.{Endianness}
 use Rattle.fields.specs.declared.endian.Endianness.TheVariants.{Big}
 use Rattle.fields.specs.declared.load_command.LoadCommand.{LoadCommand}
@@ -74,7 +74,7 @@ pub record Step : Type 0 where
 
 -- what a listing comes to after a step that answered so and left this state
 abbrev pub step_left : Result StepAnswer Refusal → State → Listing → Step
-step_left answer w l = record { answer = answer; state = w; segments = contents_of l.segments; sections = contents_of l.sections }
+step_left answer w l = record { answer = answer; state = w; segments = l.segments; sections = l.sections }
 
 -- the same of a command that was taken: an answer and the state past it, or a refusal, which leaves the state as it was
 abbrev pub left_by : Result (StepAnswer × State) Refusal → State → Listing → Step

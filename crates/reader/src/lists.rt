@@ -1,6 +1,5 @@
 // The lists that a reading fills, each over slots that the caller lends, and what a step adds to them.
 ghost use Rattle.std.specs.Prelude.{◌≡◌};
-ghost use Rattle.list.specs.Contents.{contents_of};
 ghost use Rattle.reader.specs.Maps.{add_answer, add_file, add_entry};
 ghost use Rattle.reader.specs.Walks.{list_answer, listed_segments, listed_sections};
 
@@ -28,12 +27,12 @@ impl<'a> Listing<'a> {
         source: &S,
         plan: SegmentPlan,
     ) -> Result<StepAnswer, Refusal>
-        ensures answer { result ≡ list_answer plan (contents_of self.old.segments) (contents_of self.old.sections) }
-        ensures segments { contents_of self.new.segments ≡ listed_segments plan (contents_of self.old.segments) (contents_of self.old.sections) }
-        ensures sections { contents_of self.new.sections ≡ listed_sections W.Width.wide (S.Source.bytes source.now) plan (contents_of self.old.segments) (contents_of self.old.sections) }
+        ensures answer { result ≡ list_answer plan self.old.segments self.old.sections }
+        ensures segments { self.new.segments ≡ listed_segments plan self.old.segments self.old.sections }
+        ensures sections { self.new.sections ≡ listed_sections W.Width.wide (S.Source.bytes source.now) plan self.old.segments self.old.sections }
     {
         let table = plan.table;
-        // No From leads between u32, u64 and usize; a cast is proved to lose nothing.
+        // No From leads from a usize or to one; a cast is proved to lose nothing.
         if self.segments.free() == 0 || self.sections.free() < table.count as usize {
             return Err(Reason::ListFull.at(table.command));
         }
@@ -65,9 +64,9 @@ impl<'a> ObjectMap<'a> {
         addition: Option<Addition>,
         place: u64,
     ) -> Result<MapAnswer, Refusal>
-        ensures answer { result ≡ add_answer addition place (contents_of self.old.files) (contents_of self.old.entries) }
-        ensures files { contents_of self.new.files ≡ add_file (S.Source.bytes source.now) addition (contents_of self.old.files) }
-        ensures entries { contents_of self.new.entries ≡ add_entry addition (contents_of self.old.entries) }
+        ensures answer { result ≡ add_answer addition place self.old.files self.old.entries }
+        ensures files { self.new.files ≡ add_file (S.Source.bytes source.now) addition self.old.files }
+        ensures entries { self.new.entries ≡ add_entry addition self.old.entries }
     {
         match addition {
             Some(Addition::File(name)) => {

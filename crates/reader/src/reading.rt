@@ -3,7 +3,7 @@ ghost use Rattle.std.specs.Prelude.{◌≡◌};
 ghost use Rattle.std.specs.Option.{ok_or};
 ghost use Rattle.source.specs.declared.refusal.Reason.TheVariants.{UnknownNumber};
 ghost use Rattle.source.specs.Refusals.{refusal};
-ghost use Rattle.list.specs.Contents.{contents_of, records};
+ghost use Rattle.list.specs.Contents.{records};
 ghost use Rattle.fields.specs.Names.{name_at};
 ghost use Rattle.sections.specs.Queries.{matching};
 ghost use Rattle.reader.specs.Maps.{told_if, left_if, map_left, map_step_of};
@@ -51,7 +51,7 @@ impl<S: Source, W: Width> Reading<S, W> {
         sections: &List<SectionRecord>,
         number: u64,
     ) -> Result<SectionRecord, Refusal>
-        ensures { result ≡ section_of (contents_of sections.now) number }
+        ensures { result ≡ section_of sections.now number }
     {
         let unknown = Reason::UnknownNumber.at(number);
         let position = number.checked_sub(1).ok_or(unknown)?;
@@ -68,7 +68,7 @@ impl<S: Source, W: Width> Reading<S, W> {
 
     // The record of the first section whose name the query means.
     pub fn find(&self, sections: &List<SectionRecord>, query: &[u8]) -> Option<SectionRecord>
-        ensures { result ≡ find_in (S.Source.bytes self.now.source) query.now (records (contents_of sections.now)) }
+        ensures { result ≡ find_in (S.Source.bytes self.now.source) query.now (records sections.now) }
     {
         sections
             .records()
@@ -103,7 +103,7 @@ impl<S: Source, W: Width> Reading<S, W> {
         sections: &List<SectionRecord>,
         number: u64,
     ) -> Result<Option<Symbol>, Refusal>
-        ensures { result ≡ symbol_answer W.Width.wide (S.Source.bytes self.now.source) self.now.state (contents_of sections.now) number }
+        ensures { result ≡ symbol_answer W.Width.wide (S.Source.bytes self.now.source) self.now.state sections.now number }
     {
         let found = self.known_symbol(number)?;
         Ok(self.table_of(found).symbol(sections, found.nlist))
@@ -122,7 +122,7 @@ impl<S: Source, W: Width> Reading<S, W> {
 
     // Passes one symbol of the object map. Refused, nothing changes.
     pub fn map_step(&mut self, objects: &mut ObjectMap) -> Result<MapAnswer, Refusal>
-        ensures step { map_left result self.new.map objects.new ≡ map_step_of W.Width.wide (S.Source.bytes self.old.source) self.old.state self.old.map (contents_of objects.old.files) (contents_of objects.old.entries) }
+        ensures step { map_left result self.new.map objects.new ≡ map_step_of W.Width.wide (S.Source.bytes self.old.source) self.old.state self.old.map objects.old.files objects.old.entries }
         ensures source { self.new.source ≡ self.old.source }
         ensures state { self.new.state ≡ self.old.state }
     {

@@ -31,7 +31,7 @@ impl State {
         if number >= u64::from(table.nsyms) {
             return None;
         }
-        let place = u64::from(table.symoff) + number * W::either(12, 16);
+        let place = u64::from(table.symoff) + number * Nlist::size::<W>();
         let nlist = Nlist::read::<S, W>(self.fields(source), place)?;
         Some(TableSymbol {
             table,

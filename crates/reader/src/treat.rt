@@ -1,6 +1,5 @@
 // What the next command is, what it asks for, and what comes of it.
 ghost use Rattle.std.specs.Prelude.{◌≡◌, ◌+◌, ◌^◌, ◌<◌, ◌≤◌, length, MatchOption, MatchResult, Ok, Err, Some, None};
-ghost use Rattle.list.specs.Contents.{contents_of};
 ghost use Rattle.reader.specs.Walks.{left_by, taken_of};
 ghost use Rattle.reader.specs.Commands.{next_of, read_only_in, plan_of, symtab_of, deed_of};
 
@@ -8,7 +7,9 @@ use crate::lists::Listing;
 use crate::state::{Damage, Deed, SegmentPlan, State, StepAnswer};
 use fields::load_command::{LoadCommand, SymtabCommand};
 use fields::number::Fields;
+use fields::section::Section;
 use fields::segment::Segment;
+use fields::symbol::Nlist;
 use fields::width::Width;
 use sections::offset::SectionOffsets;
 use sections::record::SectionTable;
@@ -89,7 +90,7 @@ impl<'a, S: Source> NextCommand<'a, S> {
         &self,
         listing: &mut Listing,
     ) -> Result<(StepAnswer, State), Refusal>
-        ensures { left_by result self.now.state listing.new ≡ taken_of W.Width.wide (S.Source.bytes self.now.source.now) self.now.state self.now.command (contents_of listing.old.segments) (contents_of listing.old.sections) }
+        ensures { left_by result self.now.state listing.new ≡ taken_of W.Width.wide (S.Source.bytes self.now.source.now) self.now.state self.now.command listing.old.segments listing.old.sections }
     {
         let mut past = State {
             place: self.state.place + u64::from(self.command.cmdsize),
@@ -136,13 +137,13 @@ impl<'a, S: Source> NextCommand<'a, S> {
     {
         let place = self.state.place;
         let short = Reason::ShortCommand.at(place);
-        let size = W::either(56, 72);
+        let size = Segment::size::<W>();
         let cmdsize = u64::from(self.command.cmdsize);
         if cmdsize < size {
             return Err(short);
         }
         let segment = Segment::read::<S, W>(self.fields(), place).ok_or(short)?;
-        if u64::from(segment.nsects) * W::either(68, 80) > cmdsize - size {
+        if u64::from(segment.nsects) * Section::size::<W>() > cmdsize - size {
             return Err(Reason::SectionsPastCommand.at(place));
         }
         let table = SectionTable {
@@ -172,7 +173,7 @@ impl<'a, S: Source> NextCommand<'a, S> {
             return Err(short);
         }
         let symtab = SymtabCommand::read(self.fields(), place).ok_or(short)?;
-        let end = u64::from(symtab.symoff) + u64::from(symtab.nsyms) * W::either(12, 16);
+        let end = u64::from(symtab.symoff) + u64::from(symtab.nsyms) * Nlist::size::<W>();
         if end > self.source.len() {
             return Err(Reason::SymbolsPastSource.at(place));
         }

@@ -2,7 +2,6 @@
 ghost use Rattle.std.specs.Prelude.{◌≡◌, true, false, Ok, Err};
 ghost use Rattle.source.specs.declared.refusal.Reason.TheVariants.{FinishTooEarly};
 ghost use Rattle.source.specs.Refusals.{refusal};
-ghost use Rattle.list.specs.Contents.{contents_of};
 ghost use Rattle.reader.specs.Layouts.{NextSegmentIsListedAsItsOnlyLayout};
 ghost use Rattle.reader.specs.Maps.{map_begun};
 ghost use Rattle.reader.specs.Walks.{opened, step_left, step_of};
@@ -29,7 +28,7 @@ pub struct Walk<S, W> {
 fn opened_state<S: Source, W: Width>(source: &S) -> Result<State, Refusal>
     ensures { result ≡ opened W.Width.wide (S.Source.bytes source.now) }
 {
-    let size = W::either(28, 32);
+    let size = MachHeader::size::<W>();
     if source.len() < size {
         return Err(Reason::ShortHeader.at(0));
     }
@@ -67,9 +66,9 @@ pub fn open<S: Source, W: Width + Drop>(source: S, width: W) -> Result<Walk<S, W
 impl<S: Source, W: Width> Walk<S, W> {
     // Treats one command. Refused, nothing changes, and the same step gives the same refusal again.
     pub fn step(&mut self, listing: &mut Listing) -> Result<StepAnswer, Refusal>
-        ensures step { step_left result self.new.state listing.new ≡ step_of W.Width.wide (S.Source.bytes self.old.source) self.old.state (contents_of listing.old.segments) (contents_of listing.old.sections) }
+        ensures step { step_left result self.new.state listing.new ≡ step_of W.Width.wide (S.Source.bytes self.old.source) self.old.state listing.old.segments listing.old.sections }
         ensures source { self.new.source ≡ self.old.source }
-        ensures layout { NextSegmentIsListedAsItsOnlyLayout W.Width.wide (S.Source.bytes self.old.source) self.old.state (contents_of listing.old.segments) (contents_of listing.old.sections) }
+        ensures layout { NextSegmentIsListedAsItsOnlyLayout W.Width.wide (S.Source.bytes self.old.source) self.old.state listing.old.segments listing.old.sections }
     {
         let (answer, state) = match self.state.next_command(&self.source) {
             Ok(Some(command)) => command.take::<W>(listing)?,

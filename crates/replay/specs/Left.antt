@@ -1,7 +1,6 @@
 -- What one run leaves. Assumes nothing.
 use Rattle.std.specs.Prelude.{◌≡◌, ℕ, Bool, List as Row, Ok, Err, Result}
 use Rattle.source.specs.declared.refusal.Refusal.{Refusal}
-use Rattle.list.specs.Contents.{contents_of}
 use Rattle.reader.specs.Walks.{opened}
 use Rattle.replay.specs.declared.calls.Call.{Call}
 use Rattle.replay.specs.declared.calls.Stage.{Stage}
@@ -22,4 +21,4 @@ module _ {S W : Type 0} (wide : Bool) (xs : Row ℕ) (source : S) (calls : Row C
   pub record RunOf (r : Result (Stage S W) (Refusal × S)) : Type 0 where
     pub stage : ComesTo r
     pub lists : lists_of after.lists ≡ lists_after wide xs calls (lists_of before.lists)
-    pub told : contents_of after.answers ≡ push_all (answers_after wide xs calls (lists_of before.lists)) (contents_of before.answers)
+    pub told : after.answers ≡ push_all (answers_after wide xs calls (lists_of before.lists)) before.answers

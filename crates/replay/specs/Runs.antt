@@ -3,7 +3,7 @@ use Rattle.std.specs.Prelude.{ℕ, Bool, true, false, List as Row, [], ◌∷◌
 use Rattle.source.specs.declared.refusal.Reason.TheVariants.{FinishTooEarly}
 use Rattle.source.specs.declared.refusal.Refusal.{Refusal}
 use Rattle.source.specs.Refusals.{refusal}
-use Rattle.list.specs.Contents.{Contents, contents_of, records, pushed}
+use Rattle.list.specs.Contents.{Contents, records, pushed}
 use Rattle.sections.specs.declared.record.SectionRecord.{SectionRecord}
 use Rattle.sections.specs.declared.record.SegmentRecord.{SegmentRecord}
 use Rattle.stabs.specs.declared.map.MapEntry.{MapEntry}
@@ -29,10 +29,10 @@ pub record Lists : Type 0 where
 abbrev pub lists_of : Filled → Lists
 lists_of l =
     record {
-      segments = contents_of l.listing.segments;
-      sections = contents_of l.listing.sections;
-      files = contents_of l.map.files;
-      entries = contents_of l.map.entries;
+      segments = l.listing.segments;
+      sections = l.listing.sections;
+      files = l.map.files;
+      entries = l.map.entries;
     }
 
 -- where a run is: whether the walk is finished, its state, that of the object map, and the four lists

@@ -20,7 +20,8 @@ pub enum Call<'a> {
     MapStep,
 }
 
-// What a call answered. One that the build would not accept in that state is skipped.
+// What a call answered. One that the build would not accept in that state is skipped. A refusal is a
+// case among the others, since a run keeps one list of what it was told.
 #[derive(Clone, Copy, PartialEq, Eq, Debug)]
 pub enum Answer {
     Stepped(StepAnswer),

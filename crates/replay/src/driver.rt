@@ -1,6 +1,5 @@
 // Makes the calls of a run, each on what the last left.
 ghost use Rattle.std.specs.Prelude.{◌≡◌};
-ghost use Rattle.list.specs.Contents.{contents_of};
 ghost use Rattle.replay.specs.Law.{RunIsRight};
 ghost use Rattle.replay.specs.Left.{RunOf};
 ghost use Rattle.replay.specs.Runs.{answers_of, final_of, lists_of, push_all};
@@ -18,7 +17,7 @@ use source::source::Source;
 pub fn go_on<S: Source, W: Width>(stage: Stage<S, W>, calls: &[Call], log: &mut Log) -> Stage<S, W>
     ensures source { source_of result ≡ source_of stage }
     ensures run { run_at result (lists_of log.new.lists) ≡ final_of W.Width.wide (S.Source.bytes (source_of stage)) calls.now (run_at stage (lists_of log.old.lists)) }
-    ensures told { contents_of log.new.answers ≡ push_all (answers_of W.Width.wide (S.Source.bytes (source_of stage)) calls.now (run_at stage (lists_of log.old.lists))) (contents_of log.old.answers) }
+    ensures told { log.new.answers ≡ push_all (answers_of W.Width.wide (S.Source.bytes (source_of stage)) calls.now (run_at stage (lists_of log.old.lists))) log.old.answers }
 {
     let mut at = stage;
     for call in calls {

@@ -13,4 +13,4 @@ cpu_of n =
     (cond (n == 0x0100_000c) Arm64
     (cond (n == 0x0100_0012) PowerPc64
     (cond (n == 0x0200_000c) Arm64_32
-    Other))))))
+    (Other n)))))))

@@ -28,7 +28,7 @@ pub enum CpuType {
     Arm64,
     PowerPc64,
     Arm64_32,
-    Other,
+    Other(u32),
 }
 
 // By the `cputype` of a universal file's record.
@@ -44,7 +44,7 @@ impl From<u32> for CpuType {
             CPU_TYPE_ARM64 => CpuType::Arm64,
             CPU_TYPE_POWERPC64 => CpuType::PowerPc64,
             CPU_TYPE_ARM64_32 => CpuType::Arm64_32,
-            _ => CpuType::Other,
+            n => CpuType::Other(n),
         }
     }
 }
@@ -60,7 +60,7 @@ impl fmt::Display for CpuType {
             CpuType::Arm64 => "arm64",
             CpuType::PowerPc64 => "ppc64",
             CpuType::Arm64_32 => "arm64_32",
-            CpuType::Other => "unknown",
+            CpuType::Other(_) => "unknown",
         })
     }
 }

@@ -1,4 +1,4 @@
-// How much a library can hold, by its header: how many slots suffice for its lists.
+// How much room a library wants, by what its header says.
 ghost use Rattle.std.specs.Prelude.{◌≡◌, length};
 ghost use Rattle.report.specs.Rooms.{header_of, record_room, step_room};
 

@@ -97,6 +97,8 @@ fn same_files(rt: &HostRuntime, first: &str, second: &str, path: &str) -> anyhow
     }
 }
 
+// Each program has the lines below for itself: no clause can say what a program prints, so no
+// library has them.
 fn usage(rt: &HostRuntime) -> anyhow::Result<()> {
     eprintln!(rt; "{USAGE}")?;
     Err(anyhow!("usage"))

@@ -1,7 +1,6 @@
 // Goes over the sections of a segment: first to see that each ends inside the segment, then to
 // list them, so that nothing is listed of a segment that is refused.
 ghost use Rattle.std.specs.Prelude.{◌≡◌, ◌+◌, ◌^◌, ◌<◌};
-ghost use Rattle.list.specs.Contents.{contents_of};
 ghost use Rattle.sections.specs.Listings.{checked, filled, record_of, read_only_of};
 
 use crate::kind::kind_of;
@@ -29,7 +28,7 @@ impl SectionTable {
         ensures { result ≡ checked W.Width.wide (S.Source.bytes s.now) self.now self.now.count self.now.place offsets }
     {
         // Stored offsets stand below 4 GiB, so that no section needs to be read.
-        let bytes = u64::from(self.count) * W::either(68, 80);
+        let bytes = u64::from(self.count) * Section::size::<W>();
         if !offsets.beyond_4gib() && s.has(self.place, bytes) {
             return Ok(offsets);
         }
@@ -50,12 +49,13 @@ impl SectionTable {
         mut offsets: SectionOffsets,
         sections: &mut List<SectionRecord>,
     )
-        ensures { contents_of sections.new ≡ filled W.Width.wide (S.Source.bytes s.now) self.now self.now.count self.now.place offsets (contents_of sections.old) }
+        ensures { sections.new ≡ filled W.Width.wide (S.Source.bytes s.now) self.now self.now.count self.now.place offsets sections.old }
     {
         for found in SectionIter::<S, W>::new(s, *self) {
             let Ok((place, section)) = found else {
                 return;
             };
+            // Nothing is listed past the last slot.
             if sections.free() == 0 {
                 return;
             }

@@ -11,8 +11,8 @@ use source::refusal::{Reason, Refusal};
 use source::source::Source;
 use std::marker::PhantomData;
 
-// What is left of a table. Each item is a section with its place; where the source ends before
-// one, that is refused, and nothing follows.
+// What is left of a table. Each item is a section with its place, or the refusal where the source ends
+// before one.
 #[derive(Drop)]
 pub(crate) struct SectionIter<'a, S, W> {
     source: &'a S,
@@ -57,7 +57,7 @@ impl<'a, S: Source, W: Width> Iterator for SectionIter<'a, S, W> {
             self.left = 0;
             return Some(Err(Reason::SectionsPastCommand.at(self.table.command)));
         };
-        self.place += W::either(68, 80);
+        self.place += Section::size::<W>();
         Some(Ok((place, section)))
     }
 }

@@ -11,7 +11,7 @@ impl Name {
         ensures { name_of result ≡ name_at (S.Source.bytes s.now) p }
     {
         let rest = s.len().saturating_sub(p);
-        // By position, as the bytes of a number are read.
+        // By position, which is the length of the name where it ends.
         let mut bytes = [0u8; 16];
         for i in 0..16usize {
             if i as u64 >= rest {

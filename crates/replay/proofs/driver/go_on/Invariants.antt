@@ -1,5 +1,4 @@
 use Rattle.std.proofs.Common.{◌≡◌, drop}
-use Rattle.list.specs.Contents.{contents_of}
 use Rattle.replay.specs.Runs.{final_of, answers_of, lists_of, push_all}
 use Rattle.replay.specs.Stages.{source_of, run_at}
 use Rattle.replay.proofs.driver.go_on.Given as goal
@@ -14,4 +13,4 @@ invariant-loop-call g l =
     let rest = drop l.call-index l.calls in
     (source_of l.at ≡ source_of l.initial.at)
     × (final_of wide xs rest is ≡ final_of wide xs l.calls was)
-    × (push_all (answers_of wide xs rest is) (contents_of l.log.answers) ≡ push_all (answers_of wide xs l.calls was) (contents_of l.initial.log.answers))
+    × (push_all (answers_of wide xs rest is) l.log.answers ≡ push_all (answers_of wide xs l.calls was) l.initial.log.answers)

@@ -9,7 +9,7 @@ use Rattle.sections.proofs.record.SectionTable.check_sections.Goals as goal
 pub returns-then-has : goal.returns-then-has
 returns-then-has g c =
     let t = c.args.self.now in
-    let inside = rw (c.from.ensures, c.either.ensures) at (leb-true _ _ (sym c.has.ensures.value ∙ c.if-has.true)) in
+    let inside = rw (c.from.ensures, c.size.ensures) at (leb-true _ _ (sym c.has.ensures.value ∙ c.if-has.true)) in
     sym (checked_still g.W.Width.wide (g.S.Source.bytes c.args.s.now) t t.count t.place c.args.offsets inside (sym c.beyond_4gib.ensures ∙ c.if-not-beyond_4gib.true))
 
 pub returns-in_err-place : goal.returns-in_err-place
