@@ -1,9 +1,8 @@
 // Universal files, whole and damaged.
-use crate::refusals::told;
 use fat::{arch, count, member};
 use fields::width::{Bits32, Bits64};
 use source::plain::Plain;
-use source::refusal::Level;
+use source::refusal::{Level, Said};
 use source::source::Source;
 use std::test::Fail;
 
@@ -51,7 +50,7 @@ fn refusals_come_in_their_order(rt: HostRuntime) -> Result<(), Fail> {
     ];
     for (bytes, number, expected) in cases {
         let refusal = member::<Plain, Bits32>(Plain(bytes), number).err();
-        assert_eq!(rt; refusal.map(told), Some(expected));
+        assert_eq!(rt; refusal.map(Said::from), Some(expected));
     }
     Ok(())
 }

@@ -11,7 +11,6 @@ mod numbers;
 #[cfg(test)]
 mod records;
 #[cfg(test)]
-mod refusals;
 #[cfg(test)]
 mod sources;
 #[cfg(test)]

@@ -1,7 +1,6 @@
 // Lists of two kinds of record, filled up and past.
-use crate::refusals::told;
 use list::list::List;
-use source::refusal::Level;
+use source::refusal::{Level, Said};
 
 #[test]
 fn a_full_list_refuses_and_keeps_every_slot(rt: HostRuntime) {
@@ -16,7 +15,7 @@ fn a_full_list_refuses_and_keeps_every_slot(rt: HostRuntime) {
         assert_eq!(rt; list.get(2), None);
         assert_eq!(rt; list.push(6, 42), Ok(()));
         let full = (7, Level::Reading, 43);
-        assert_eq!(rt; list.push(5, 43).map_err(told), Err(full));
+        assert_eq!(rt; list.push(5, 43).map_err(Said::from), Err(full));
         assert_eq!(rt; list.count(), 3);
         assert_eq!(rt; list.free(), 0);
     }

@@ -1,10 +1,9 @@
 // The edges of each make of source.
-use crate::refusals::told;
 use source::join::Join;
 use source::padded::Padded;
 use source::part::PartSource;
 use source::plain::Plain;
-use source::refusal::Level;
+use source::refusal::{Level, Said};
 use source::source::Source;
 use source::window::Window;
 use std::test::Fail;
@@ -33,7 +32,7 @@ fn padding_is_zeros_up_to_the_length(rt: HostRuntime) -> Result<(), Fail> {
     let all_head = Padded::new(b"ab", 2)?;
     assert_eq!(rt; all_head.byte(2), None);
     let under = Padded::new(b"ab", 1).err();
-    assert_eq!(rt; under.map(told), Some((15, Level::Source, 0)));
+    assert_eq!(rt; under.map(Said::from), Some((15, Level::Source, 0)));
     Ok(())
 }
 
@@ -51,7 +50,7 @@ fn windows_pass_no_source(rt: HostRuntime) -> Result<(), Fail> {
     let past = [(3, 2), (5, 0), (0, 5), (1, u64::MAX), (u64::MAX, 1)];
     for (start, count) in past {
         let refusal = Window::new(&four, start, count).err();
-        assert_eq!(rt; refusal.map(told), Some((14, Level::Source, start)));
+        assert_eq!(rt; refusal.map(Said::from), Some((14, Level::Source, start)));
     }
     Ok(())
 }
@@ -65,7 +64,7 @@ fn a_window_of_a_window_counts_from_the_inner_start(rt: HostRuntime) -> Result<(
     assert_eq!(rt; inner.byte(2), Some(b'e'));
     assert_eq!(rt; inner.byte(3), None);
     let past = Window::new(&outer, 1, 4).err();
-    assert_eq!(rt; past.map(told), Some((14, Level::Source, 1)));
+    assert_eq!(rt; past.map(Said::from), Some((14, Level::Source, 1)));
     Ok(())
 }
 
@@ -95,7 +94,7 @@ fn joins_have_at_most_all_lengths_of_64_bits(rt: HostRuntime) -> Result<(), Fail
     assert_eq!(rt; j.byte(u64::MAX - 1), Some(b'z'));
     assert_eq!(rt; j.byte(u64::MAX), None);
     let too_long = Join::new(front, Plain(b"xyz")).err();
-    assert_eq!(rt; too_long.map(told), Some((15, Level::Source, 0)));
+    assert_eq!(rt; too_long.map(Said::from), Some((15, Level::Source, 0)));
     Ok(())
 }
 

@@ -1,5 +1,4 @@
 // Walks over small libraries that are made here, and over damaged ones.
-use crate::refusals::told;
 use fields::width::Bits64;
 use list::list::List;
 use reader::lists::Listing;
@@ -9,7 +8,7 @@ use sections::kind::SectionKind;
 use sections::record::{SectionRecord, SegmentRecord};
 use source::padded::Padded;
 use source::plain::Plain;
-use source::refusal::Level;
+use source::refusal::{Level, Said};
 use source::source::Source;
 use std::process::Abort;
 use std::test::Fail;
@@ -41,13 +40,13 @@ fn refusal_of<S: Source>(rt: &impl Abort, s: &S, slots: usize) -> Result<(u8, Le
     };
     let mut walk = match open(s, Bits64) {
         Ok(walk) => walk,
-        Err((e, _)) => return Ok(told(e)),
+        Err((e, _)) => return Ok(Said::from(e)),
     };
     for _ in 0..4 {
         if let Err(e) = walk.step(&mut listing) {
             assert_eq!(rt; listing.segments.count(), 0);
             assert_eq!(rt; listing.sections.count(), 0);
-            return Ok(told(e));
+            return Ok(Said::from(e));
         }
     }
     Err(Fail::new("no refusal"))
@@ -65,7 +64,7 @@ fn a_segment_beyond_4_gib_is_listed_at_its_true_offsets(rt: HostRuntime) -> Resu
     let mut walk = open(&s, Bits64).map_err(|(e, _)| e)?;
     assert_eq!(rt; walk.step(&mut listing)?, StepAnswer::Segment);
     let (early, mut walk) = walk.finish().err().ok_or("finished too early")?;
-    assert_eq!(rt; told(early), (8, Level::Reading, 264));
+    assert_eq!(rt; Said::from(early), (8, Level::Reading, 264));
     assert_eq!(rt; walk.step(&mut listing)?, StepAnswer::End);
     assert_eq!(rt; walk.step(&mut listing)?, StepAnswer::End);
     let reading = walk.finish().map_err(|(e, _)| e)?;

@@ -22,7 +22,7 @@ pub fn count<S: Source, W: Width>(source: &S) -> Result<u32, Refusal>
         return Err(Reason::WrongFatMagic.at(0));
     }
     let table = u64::from(header.nfat_arch) * FatArch::size::<W>();
-    if !source.has(8, table) {
+    if !source.has(FatHeader::SIZE, table) {
         return Err(Reason::ShortFatHeader.at(0));
     }
     Ok(header.nfat_arch)
@@ -37,8 +37,8 @@ pub fn arch<S: Source, W: Width>(source: &S, number: u64) -> Result<FatArch, Ref
     if number >= u64::from(n) {
         return Err(Reason::UnknownMember.at(number));
     }
-    let arch = FatArch::read::<S, W>(source, 8 + number * FatArch::size::<W>());
-    arch.ok_or(Reason::ShortFatHeader.at(0))
+    let place = FatHeader::SIZE + number * FatArch::size::<W>();
+    FatArch::read::<S, W>(source, place).ok_or(Reason::ShortFatHeader.at(0))
 }
 
 // The bytes of a member. Refused as `arch` is, and then when they pass the source.

@@ -18,6 +18,8 @@ pub struct FatHeader {
 }
 
 impl FatHeader {
+    pub const SIZE: u64 = 8;
+
     // The header at the start of a source, exactly when all of its record is there.
     pub fn read<S: Source>(s: &S) -> Option<FatHeader>
         ensures { result ≡ fat_header_at (S.Source.bytes s.now) }

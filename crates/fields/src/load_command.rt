@@ -13,11 +13,13 @@ pub struct LoadCommand {
 }
 
 impl LoadCommand {
+    pub const SIZE: u64 = 8;
+
     // The first fields of the command at p, exactly when they are there.
     pub fn read<S: Source>(f: Fields<S>, p: u64) -> Option<LoadCommand>
         ensures { result ≡ load_command_at (S.Source.bytes f.entry.source.now) p f.entry.endian }
     {
-        if !f.source.has(p, 8) {
+        if !f.source.has(p, LoadCommand::SIZE) {
             return None;
         }
         Some(LoadCommand {
@@ -37,11 +39,13 @@ pub struct SymtabCommand {
 }
 
 impl SymtabCommand {
+    pub const SIZE: u64 = 24;
+
     // The command at p, exactly when all of its record is there.
     pub fn read<S: Source>(f: Fields<S>, p: u64) -> Option<SymtabCommand>
         ensures { result ≡ symtab_at (S.Source.bytes f.entry.source.now) p f.entry.endian }
     {
-        if !f.source.has(p, 24) {
+        if !f.source.has(p, SymtabCommand::SIZE) {
             return None;
         }
         Some(SymtabCommand {

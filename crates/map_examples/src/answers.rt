@@ -1,12 +1,12 @@
 // What symbols answer, and where their names stand.
-use crate::library::{Told, library, nlist, reading_of, span, symbol_place, told};
+use crate::library::{library, nlist, reading_of, span, symbol_place};
 use fields::endian::Endianness;
 use fields::symbol::Nlist;
 use fields::width::{Bits32, Bits64, Width};
 use list::list::List;
 use sections::kind::SectionKind;
 use sections::record::SectionRecord;
-use source::refusal::Level;
+use source::refusal::{Level, Said};
 use source::span::Span;
 use std::alloc::Global;
 use std::process::Abort;
@@ -203,11 +203,11 @@ fn name_of<W: Width + Drop>(
     endian: Endianness,
     n_strx: u32,
     number: u64,
-) -> Result<Result<Span, Told>, Fail> {
+) -> Result<Result<Span, Said>, Fail> {
     let symbols = [nlist(0, 0x0f, 1, 0, 0), nlist(n_strx, 0x0f, 1, 0, 0)];
     let bytes = library::<W>(heap, endian, b"\0name\0", &symbols)?;
     let reading = reading_of(rt, &bytes, width)?;
-    Ok(reading.name(number).map_err(told))
+    Ok(reading.name(number).map_err(Said::from))
 }
 
 fn names_hold<W: Width + Copy>(
@@ -251,7 +251,7 @@ fn a_number_past_the_last_symbol_is_unknown(rt: HostRuntime) -> Result<(), Fail>
     let reading = reading_of(&rt, &bytes, Bits64)?;
     let mut slots = [SectionRecord::default(); 1];
     let sections = List::new(&mut slots);
-    let answer = reading.symbol(&sections, 1).map_err(told);
+    let answer = reading.symbol(&sections, 1).map_err(Said::from);
     assert_eq!(rt; answer, Err((9, Level::Reading, 1)));
     Ok(())
 }

@@ -10,19 +10,11 @@ use reader::state::StepAnswer;
 use reader::walk::open;
 use sections::record::{SectionRecord, SegmentRecord};
 use source::plain::Plain;
-use source::refusal::{Level, Refusal};
 use source::source::Source;
 use source::span::Span;
 use std::alloc::Global;
 use std::process::Abort;
 use std::test::Fail;
-
-// What a refusal says: its number, its level and its place.
-pub(crate) type Told = (u8, Level, u64);
-
-pub(crate) fn told(e: Refusal) -> Told {
-    (e.number(), e.level(), e.place)
-}
 
 pub(crate) fn nlist(n_strx: u32, n_type: u8, n_sect: u8, n_desc: u16, n_value: u64) -> Nlist {
     Nlist {

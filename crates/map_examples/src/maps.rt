@@ -1,5 +1,5 @@
 // The object map of small libraries.
-use crate::library::{Told, library, nlist, reading_of, span, symbol_place, told};
+use crate::library::{library, nlist, reading_of, span, symbol_place};
 use fields::endian::Endianness;
 use fields::symbol::Nlist;
 use fields::width::{Bits32, Bits64, Width};
@@ -8,7 +8,7 @@ use reader::lists::ObjectMap;
 use reader::reading::Reading;
 use reader::state::MapAnswer;
 use source::plain::Plain;
-use source::refusal::Level;
+use source::refusal::{Level, Said};
 use stabs::map::{MapEntry, MapFile};
 use stabs::stab::{N_FUN, N_OSO, N_SO, N_STSYM};
 use std::alloc::Global;
@@ -44,10 +44,10 @@ fn steps<W: Width>(
     rt: &impl Abort,
     reading: &mut Reading<Plain, W>,
     map: &mut ObjectMap,
-    expected: &[Result<MapAnswer, Told>],
+    expected: &[Result<MapAnswer, Said>],
 ) {
     for answer in expected {
-        assert_eq!(rt; reading.map_step(map).map_err(told), *answer);
+        assert_eq!(rt; reading.map_step(map).map_err(Said::from), *answer);
     }
 }
 

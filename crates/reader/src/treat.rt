@@ -58,11 +58,11 @@ impl State {
             return Ok(None);
         }
         let rest = self.table_end.saturating_sub(self.place);
-        if rest < 8 {
+        if rest < LoadCommand::SIZE {
             return Err(Damage);
         }
         let command = LoadCommand::read(self.fields(source), self.place).ok_or(Damage)?;
-        if command.cmdsize < 8 || u64::from(command.cmdsize) > rest {
+        if u64::from(command.cmdsize) < LoadCommand::SIZE || u64::from(command.cmdsize) > rest {
             return Err(Damage);
         }
         Ok(Some(NextCommand {
@@ -169,7 +169,7 @@ impl<'a, S: Source> NextCommand<'a, S> {
     {
         let place = self.state.place;
         let short = Reason::ShortCommand.at(place);
-        if self.command.cmdsize < 24 {
+        if u64::from(self.command.cmdsize) < SymtabCommand::SIZE {
             return Err(short);
         }
         let symtab = SymtabCommand::read(self.fields(), place).ok_or(short)?;

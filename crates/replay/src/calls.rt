@@ -20,8 +20,9 @@ pub enum Call<'a> {
     MapStep,
 }
 
-// What a call answered. One that the build would not accept in that state is skipped. A refusal is a
-// case among the others, since a run keeps one list of what it was told.
+// What a call answered. One that the build would not accept in that state is skipped. A refusal
+// and what was skipped are cases among the others: as a result of an option, each other case would be
+// wrapped twice, here and in every definition of the law.
 #[derive(Clone, Copy, PartialEq, Eq, Debug)]
 pub enum Answer {
     Stepped(StepAnswer),

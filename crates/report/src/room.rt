@@ -10,7 +10,8 @@ use source::source::Source;
 // No library has more symbols, since a number of 32 bits counts them.
 pub const MOST_SYMBOLS: u64 = u32::MAX as u64;
 
-// The header of a library, in the byte order that its magic marks.
+// The header of a library, in the byte order that its magic marks. To open one is another thing: it
+// tells a short header from a wrong magic.
 fn header<S: Source, W: Width>(s: &S) -> Option<MachHeader>
     ensures { result ≡ header_of W.Width.wide (S.Source.bytes s.now) }
 {

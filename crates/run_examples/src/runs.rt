@@ -11,7 +11,7 @@ use sections::record::{SectionRecord, SegmentRecord};
 use source::join::Join;
 use source::padded::Padded;
 use source::plain::Plain;
-use source::refusal::Level;
+use source::refusal::{Level, Said};
 use source::span::Span;
 use stabs::map::{MapEntry, MapFile};
 use std::process::Abort;
@@ -63,10 +63,10 @@ const CALLS: [Call<'static>; 20] = [
     Call::MapStep,
 ];
 
-// The number, the level and the place of a refusal.
-fn refused(answer: Option<Answer>) -> Result<(u8, Level, u64), Fail> {
+// What a refusal says.
+fn refused(answer: Option<Answer>) -> Result<Said, Fail> {
     match answer {
-        Some(Answer::Refused(e)) => Ok((e.number(), e.level(), e.place)),
+        Some(Answer::Refused(e)) => Ok(Said::from(e)),
         _ => Err(Fail::new("no refusal")),
     }
 }
@@ -114,9 +114,8 @@ fn check_reading(rt: &impl Abort, answers: &List<Answer>) -> Result<(), Fail> {
 
 // What the map steps answer: six symbols are passed.
 fn check_map(rt: &impl Abort, answers: &List<Answer>) -> Result<(), Fail> {
-    for i in 13..19usize {
-        assert_eq!(rt; answers.get(i), Some(Answer::Mapped(MapAnswer::Passed)));
-    }
+    let passed = [Answer::Mapped(MapAnswer::Passed); 6];
+    assert_eq!(rt; answers.records().get(13..19), Some(passed.as_slice()));
     assert_eq!(rt; answers.get(19), Some(Answer::Mapped(MapAnswer::End)));
     Ok(())
 }

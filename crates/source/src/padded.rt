@@ -33,9 +33,7 @@ impl<'a> Source for Padded<'a> {
     }
 
     fn byte(&self, p: u64) -> Option<u8> {
-        match self.head.get(p as usize) {
-            Some(b) => Some(*b),
-            None => (p < self.total).then_some(0),
-        }
+        let zero = (p < self.total).then_some(0);
+        self.head.get(p as usize).copied().or(zero)
     }
 }

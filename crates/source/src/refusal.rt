@@ -97,6 +97,17 @@ impl Refusal {
     }
 }
 
+// What a refusal says: its number, its level and its place.
+pub type Said = (u8, Level, u64);
+
+impl From<Refusal> for Said {
+    ghost from_gives = { λ e said. said ≡ (number_of e.reason, level_of e.reason, e.place) };
+
+    fn from(e: Refusal) -> Said {
+        (e.number(), e.level(), e.place)
+    }
+}
+
 impl fmt::Display for Level {
     fn fmt<W: fmt::Write>(&self, f: &mut fmt::Formatter<W>) -> fmt::Result {
         f.write_str(match self {
