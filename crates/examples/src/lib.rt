@@ -11,7 +11,6 @@ mod numbers;
 #[cfg(test)]
 mod records;
 #[cfg(test)]
-#[cfg(test)]
 mod sources;
 #[cfg(test)]
 mod walks;

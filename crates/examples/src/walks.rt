@@ -1,7 +1,6 @@
 // Walks over small libraries that are made here, and over damaged ones.
 use fields::width::Bits64;
 use list::list::List;
-use reader::lists::Listing;
 use reader::state::StepAnswer;
 use reader::walk::open;
 use sections::kind::SectionKind;
@@ -34,18 +33,16 @@ fn refusal_of<S: Source>(rt: &impl Abort, s: &S, slots: usize) -> Result<(u8, Le
     let mut segments = [SegmentRecord::default(); 2];
     let mut sections = [SectionRecord::default(); 2];
     assert!(rt; slots <= 2);
-    let mut listing = Listing {
-        segments: List::new(&mut segments[0..slots]),
-        sections: List::new(&mut sections),
-    };
+    let mut segments = List::new(&mut segments[0..slots]);
+    let mut sections = List::new(&mut sections);
     let mut walk = match open(s, Bits64) {
         Ok(walk) => walk,
         Err((e, _)) => return Ok(Said::from(e)),
     };
     for _ in 0..4 {
-        if let Err(e) = walk.step(&mut listing) {
-            assert_eq!(rt; listing.segments.count(), 0);
-            assert_eq!(rt; listing.sections.count(), 0);
+        if let Err(e) = walk.step(&mut segments, &mut sections) {
+            assert_eq!(rt; segments.count(), 0);
+            assert_eq!(rt; sections.count(), 0);
             return Ok(Said::from(e));
         }
     }
@@ -57,18 +54,18 @@ fn a_segment_beyond_4_gib_is_listed_at_its_true_offsets(rt: HostRuntime) -> Resu
     let s = Padded::new(LARGE, 0x1_0000_0100)?;
     let mut segments = [SegmentRecord::default(); 1];
     let mut sections = [SectionRecord::default(); 2];
-    let mut listing = Listing {
-        segments: List::new(&mut segments),
-        sections: List::new(&mut sections),
-    };
+    let mut segments = List::new(&mut segments);
+    let mut sections = List::new(&mut sections);
     let mut walk = open(&s, Bits64).map_err(|(e, _)| e)?;
-    assert_eq!(rt; walk.step(&mut listing)?, StepAnswer::Segment);
+    assert_eq!(rt;
+        walk.step(&mut segments, &mut sections)?,
+        StepAnswer::Segment
+    );
     let (early, mut walk) = walk.finish().err().ok_or("finished too early")?;
     assert_eq!(rt; Said::from(early), (8, Level::Reading, 264));
-    assert_eq!(rt; walk.step(&mut listing)?, StepAnswer::End);
-    assert_eq!(rt; walk.step(&mut listing)?, StepAnswer::End);
+    assert_eq!(rt; walk.step(&mut segments, &mut sections)?, StepAnswer::End);
+    assert_eq!(rt; walk.step(&mut segments, &mut sections)?, StepAnswer::End);
     let reading = walk.finish().map_err(|(e, _)| e)?;
-    let Listing { segments, sections } = listing;
     let first = reading.section(&sections, 1)?;
     assert_eq!(rt; first.offset, 0xffff_ff00);
     assert_eq!(rt; first.kind, SectionKind::Text);
@@ -115,14 +112,15 @@ fn refusals_name_their_places(rt: HostRuntime) -> Result<(), Fail> {
 fn a_table_past_the_source_is_broken(rt: HostRuntime) -> Result<(), Fail> {
     let mut segments = [SegmentRecord::default(); 1];
     let mut sections = [SectionRecord::default(); 1];
-    let mut listing = Listing {
-        segments: List::new(&mut segments),
-        sections: List::new(&mut sections),
-    };
+    let mut segments = List::new(&mut segments);
+    let mut sections = List::new(&mut sections);
     let s = Plain(&LARGE[0..263]);
     let mut walk = open(&s, Bits64).map_err(|(e, _)| e)?;
-    assert_eq!(rt; walk.step(&mut listing)?, StepAnswer::Broken);
-    assert_eq!(rt; walk.step(&mut listing)?, StepAnswer::End);
+    assert_eq!(rt;
+        walk.step(&mut segments, &mut sections)?,
+        StepAnswer::Broken
+    );
+    assert_eq!(rt; walk.step(&mut segments, &mut sections)?, StepAnswer::End);
     assert!(rt; walk.finish().is_ok());
     Ok(())
 }

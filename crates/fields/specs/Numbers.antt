@@ -14,6 +14,11 @@ abbrev pub least_first : Endianness → List ℕ → List ℕ
 least_first Little bs = bs
 least_first Big bs = reverse bs
 
+-- what is right in a byte order, of what is in either
+abbrev pub ordered : {X : Type 0} → Endianness → X → X → X
+ordered Little little big = little
+ordered Big little big = big
+
 -- the number that bytes make in a byte order
 abbrev pub value_of : Endianness → List ℕ → ℕ
 value_of endian bs = little_of (least_first endian bs)

@@ -2,7 +2,7 @@
 ghost use Rattle.std.specs.Prelude.{◌≡◌};
 ghost use Rattle.source.specs.Bytes.{run};
 ghost use Rattle.fields.specs.declared.endian.Endianness.TheVariants.{Big};
-ghost use Rattle.fields.specs.Numbers.{least_first, whole, field};
+ghost use Rattle.fields.specs.Numbers.{ordered, whole, field};
 
 use crate::endian::Endianness;
 use source::source::Source;
@@ -14,8 +14,10 @@ pub struct Fields<'a, S> {
     pub endian: Endianness,
 }
 
-// The three readers differ in their types alone: each is one line over `least_first`, and a trait of
-// the three types would have an impl of that line for each.
+// The three readers differ in their types alone: each is two lines over `bytes_at`, and a trait of
+// the three types would have an impl of those lines for each. The number is made in either order before one is
+// taken, since the compiler then sees that the bytes are one number, and reads it at once; of bytes that
+// are turned round first it reads each by itself.
 impl<'a, S: Source> Fields<'a, S> {
     // The numbers of a source that are big-endian whatever the file is.
     pub fn big_endian(source: &'a S) -> Fields<'a, S>
@@ -43,32 +45,34 @@ impl<'a, S: Source> Fields<'a, S> {
         Some(bytes)
     }
 
-    // The same, the least first.
-    fn least_first<const N: usize>(self, p: u64) -> Option<[u8; N]>
-        ensures { result ≡ whole (S.bytes self.entry.source.now) p N (least_first self.entry.endian (run p N (S.bytes self.entry.source.now))) }
+    // What is right in this byte order, of what is in either.
+    fn ordered<T: Drop>(self, little: T, big: T) -> T
+        ensures { result ≡ ordered self.entry.endian little big }
     {
-        let mut bytes = self.bytes_at(p)?;
-        if self.endian == Endianness::Big {
-            bytes.reverse();
+        match self.endian {
+            Endianness::Little => little,
+            Endianness::Big => big,
         }
-        Some(bytes)
     }
 
     pub fn u16_at(self, p: u64) -> Option<u16>
         ensures { result ≡ field (S.bytes self.entry.source.now) p 2 self.entry.endian }
     {
-        self.least_first(p).map(u16::from_le_bytes)
+        let bytes = self.bytes_at::<2>(p)?;
+        Some(self.ordered(u16::from_le_bytes(bytes), u16::from_be_bytes(bytes)))
     }
 
     pub fn u32_at(self, p: u64) -> Option<u32>
         ensures { result ≡ field (S.bytes self.entry.source.now) p 4 self.entry.endian }
     {
-        self.least_first(p).map(u32::from_le_bytes)
+        let bytes = self.bytes_at::<4>(p)?;
+        Some(self.ordered(u32::from_le_bytes(bytes), u32::from_be_bytes(bytes)))
     }
 
     pub fn u64_at(self, p: u64) -> Option<u64>
         ensures { result ≡ field (S.bytes self.entry.source.now) p 8 self.entry.endian }
     {
-        self.least_first(p).map(u64::from_le_bytes)
+        let bytes = self.bytes_at::<8>(p)?;
+        Some(self.ordered(u64::from_le_bytes(bytes), u64::from_be_bytes(bytes)))
     }
 }

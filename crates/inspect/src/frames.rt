@@ -8,11 +8,10 @@ use fields::header::endian_of;
 use fields::number::Fields;
 use fields::width::{Bits32, Bits64, Width};
 use list::list::List;
-use reader::lists::Listing;
 use reader::reading::Reading;
 use report::canonical::{EntryText, FileText, NameText, SectionText, SegmentText, SymbolText};
 use report::room::MOST_SYMBOLS;
-use sections::record::SectionRecord;
+use sections::record::{SectionRecord, SegmentRecord};
 use source::plain::Plain;
 use source::refusal::Refusal;
 use source::source::Source;
@@ -73,11 +72,15 @@ impl Page {
         Ok(())
     }
 
-    fn put_listing(&mut self, listing: &Listing) -> anyhow::Result<()> {
-        for record in listing.segments.records() {
+    fn put_listing(
+        &mut self,
+        segments: &List<SegmentRecord>,
+        sections: &List<SectionRecord>,
+    ) -> anyhow::Result<()> {
+        for record in segments.records() {
             writeln!(self.text, "{}", SegmentText(*record))?;
         }
-        for record in listing.sections.records() {
+        for record in sections.records() {
             writeln!(self.text, "{}", SectionText(*record))?;
         }
         Ok(())
@@ -145,11 +148,12 @@ impl Page {
         sections: &List<SectionRecord>,
     ) -> anyhow::Result<()> {
         let mut slots = MapSlots::new(self.heap, reading, sections)?;
-        let mut map = slots.object_map();
-        match read_map(reading, &mut map) {
+        let mut files = List::new(slots.files.as_mut_slice());
+        let mut entries = List::new(slots.entries.as_mut_slice());
+        match read_map(reading, &mut files, &mut entries) {
             Ok(()) => {
-                self.put_files(&map.files)?;
-                self.put_entries(&map.entries)
+                self.put_files(&files)?;
+                self.put_entries(&entries)
             }
             Err(e) => self.put_refusal(e),
         }
@@ -158,17 +162,18 @@ impl Page {
     // The block of a thin file at one width.
     fn put_thin<S: Source, W: Width + Drop>(&mut self, s: &S, width: W) -> anyhow::Result<()> {
         let mut slots = ListingSlots::new::<S, W>(self.heap, s)?;
-        let mut listing = slots.listing();
-        let mut reading = match read_library(s, width, &mut listing) {
+        let mut segments = List::new(slots.segments.as_mut_slice());
+        let mut sections = List::new(slots.sections.as_mut_slice());
+        let mut reading = match read_library(s, width, &mut segments, &mut sections) {
             Ok(reading) => reading,
             Err(e) => return self.put_refusal(e),
         };
         self.put_endian::<S, W>(s)?;
-        self.put_listing(&listing)?;
-        self.put_finds(&reading, &listing.sections)?;
+        self.put_listing(&segments, &sections)?;
+        self.put_finds(&reading, &sections)?;
         if self.extent == Extent::Whole {
-            self.put_symbols(&reading, &listing.sections)?;
-            self.put_map(&mut reading, &listing.sections)?;
+            self.put_symbols(&reading, &sections)?;
+            self.put_map(&mut reading, &sections)?;
         }
         Ok(())
     }

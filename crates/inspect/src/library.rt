@@ -1,7 +1,6 @@
 // One library, read whole.
 use fields::width::Width;
 use list::list::List;
-use reader::lists::{Listing, ObjectMap};
 use reader::reading::Reading;
 use reader::state::{MapAnswer, StepAnswer};
 use reader::walk::{Walk, open};
@@ -15,8 +14,8 @@ use std::alloc::{AllocError, Global};
 // Slots for the segments and sections of a library.
 #[derive(Drop)]
 pub(crate) struct ListingSlots {
-    segments: Vec<SegmentRecord>,
-    sections: Vec<SectionRecord>,
+    pub(crate) segments: Vec<SegmentRecord>,
+    pub(crate) sections: Vec<SectionRecord>,
 }
 
 impl ListingSlots {
@@ -31,20 +30,13 @@ impl ListingSlots {
             sections: vec![in heap; SectionRecord::default(); room]?,
         })
     }
-
-    pub(crate) fn listing(&mut self) -> Listing<'_> {
-        Listing {
-            segments: List::new(self.segments.as_mut_slice()),
-            sections: List::new(self.sections.as_mut_slice()),
-        }
-    }
 }
 
 // Slots for the files and entries of an object map.
 #[derive(Drop)]
 pub(crate) struct MapSlots {
-    files: Vec<MapFile>,
-    entries: Vec<MapEntry>,
+    pub(crate) files: Vec<MapFile>,
+    pub(crate) entries: Vec<MapEntry>,
 }
 
 impl MapSlots {
@@ -59,13 +51,6 @@ impl MapSlots {
             files: vec![in heap; MapFile::default(); room]?,
             entries: vec![in heap; MapEntry::default(); room]?,
         })
-    }
-
-    pub(crate) fn object_map(&mut self) -> ObjectMap<'_> {
-        ObjectMap {
-            files: List::new(self.files.as_mut_slice()),
-            entries: List::new(self.entries.as_mut_slice()),
-        }
     }
 }
 
@@ -83,10 +68,11 @@ fn count_stabs<S: Source, W: Width>(
 // than 2^32.
 fn step_to_end<S: Source, W: Width>(
     walk: &mut Walk<&S, W>,
-    listing: &mut Listing,
+    segments: &mut List<SegmentRecord>,
+    sections: &mut List<SectionRecord>,
 ) -> Result<(), Refusal> {
     for _ in 0..0x1_0000_0000u64 {
-        match walk.step(listing)? {
+        match walk.step(segments, sections)? {
             StepAnswer::End | StepAnswer::Broken => break,
             StepAnswer::Segment | StepAnswer::Symbols | StepAnswer::Passed => {}
         }
@@ -98,20 +84,22 @@ fn step_to_end<S: Source, W: Width>(
 pub(crate) fn read_library<'a, S: Source, W: Width + Drop>(
     s: &'a S,
     width: W,
-    listing: &mut Listing,
+    segments: &mut List<SegmentRecord>,
+    sections: &mut List<SectionRecord>,
 ) -> Result<Reading<&'a S, W>, Refusal> {
     let mut walk = open(s, width).map_err(|(e, _)| e)?;
-    step_to_end(&mut walk, listing)?;
+    step_to_end(&mut walk, segments, sections)?;
     walk.finish().map_err(|(e, _)| e)
 }
 
 // Passes all symbols of the object map that are left.
 pub(crate) fn read_map<S: Source, W: Width>(
     reading: &mut Reading<S, W>,
-    map: &mut ObjectMap,
+    files: &mut List<MapFile>,
+    entries: &mut List<MapEntry>,
 ) -> Result<(), Refusal> {
     for _ in 0..MOST_SYMBOLS {
-        if reading.map_step(map)? == MapAnswer::End {
+        if reading.map_step(files, entries)? == MapAnswer::End {
             break;
         }
     }

@@ -4,11 +4,10 @@ use fat::{count, member};
 use fields::kind::FileKind;
 use fields::width::{Bits32, Bits64, Width};
 use list::list::List;
-use reader::lists::Listing;
 use reader::reading::Reading;
 use report::member::MemberLine;
 use report::section::SectionLine;
-use sections::record::SectionRecord;
+use sections::record::{SectionRecord, SegmentRecord};
 use source::source::Source;
 use std::io;
 
@@ -90,9 +89,10 @@ impl<'a, S: Source> Printer<'a, S> {
     // A library at one width.
     fn print_library<W: Width + Drop>(&self, width: W) -> io::Result<()> {
         let mut slots = ListingSlots::new::<S, W>(self.rt.alloc(), self.source)?;
-        let mut listing = slots.listing();
-        match read_library(self.source, width, &mut listing) {
-            Ok(mut reading) => self.print_reading(&mut reading, &listing),
+        let mut segments = List::new(slots.segments.as_mut_slice());
+        let mut sections = List::new(slots.sections.as_mut_slice());
+        match read_library(self.source, width, &mut segments, &mut sections) {
+            Ok(mut reading) => self.print_reading(&mut reading, &segments, &sections),
             Err(e) => println!(self.rt; "{e}"),
         }
     }
@@ -101,16 +101,16 @@ impl<'a, S: Source> Printer<'a, S> {
     fn print_reading<W: Width>(
         &self,
         reading: &mut Reading<&S, W>,
-        listing: &Listing,
+        segments: &List<SegmentRecord>,
+        sections: &List<SectionRecord>,
     ) -> io::Result<()> {
-        let sections = &listing.sections;
         match self.ask {
             Ask::Sections => {
-                self.print_segments(&listing.segments)?;
+                self.print_segments(segments)?;
                 self.print_sections(sections)
             }
             Ask::All => {
-                self.print_segments(&listing.segments)?;
+                self.print_segments(segments)?;
                 self.print_sections(sections)?;
                 self.print_symbols(reading, sections)?;
                 self.print_map(reading, sections)

@@ -93,11 +93,12 @@ impl<'a, S: Source> Printer<'a, S> {
         sections: &List<SectionRecord>,
     ) -> io::Result<()> {
         let mut slots = MapSlots::new(self.rt.alloc(), reading, sections)?;
-        let mut map = slots.object_map();
-        match read_map(reading, &mut map) {
+        let mut files = List::new(slots.files.as_mut_slice());
+        let mut entries = List::new(slots.entries.as_mut_slice());
+        match read_map(reading, &mut files, &mut entries) {
             Ok(()) => {
-                self.print_files(&map.files)?;
-                self.print_entries(&map.entries)
+                self.print_files(&files)?;
+                self.print_entries(&entries)
             }
             Err(e) => println!(self.rt; "{e}"),
         }

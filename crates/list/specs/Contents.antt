@@ -1,21 +1,21 @@
--- A list over a slice as a value: which slice it lies in, every slot of it, and how many of them are in use.
--- Assumes nothing.
-use base.Fml.{GName}
+-- A list over a slice as a value: every slot, and how many of them are in use. Assumes nothing.
 use Rattle.std.specs.Prelude.{ℕ, ◌+◌, ◌-◌, Bool, cond, List as Row, length, take, None, Ok, Err, Option, Result, nat_lt, slice_set}
-use Rattle.std.specs.Borrow.{MutBor}
 use Rattle.std.specs.List.{slice_get}
 use Rattle.source.specs.declared.refusal.Reason.TheVariants.{ListFull}
 use Rattle.source.specs.declared.refusal.Refusal.{Refusal}
 use Rattle.source.specs.Refusals.{refusal}
+use Rattle.list.specs.declared.list.List.{List}
 
 pub record Contents (X : Type 0) : Type 0 where
-  pub slice : GName
   pub slots : Row X
   pub count : ℕ
 
--- an empty list over a slice
-abbrev pub empty : {X : Type 0} → MutBor (Row X) → Contents X
-empty s = record { slice = s.ghost_name; slots = s.now; count = 0 }
+abbrev pub contents_of : {X : Type 0} → List X → Contents X
+contents_of l = record { slots = l.slots.now; count = l.count }
+
+-- an empty list over slots
+abbrev pub empty : {X : Type 0} → Row X → Contents X
+empty s = record { slots = s; count = 0 }
 
 -- the records of a list, in order
 abbrev pub records : {X : Type 0} → Contents X → Row X
@@ -30,7 +30,7 @@ has_room c = nat_lt c.count (length c.slots)
 
 -- one record more, in the first slot that is free
 abbrev pub added : {X : Type 0} → Contents X → X → Contents X
-added c x = record { slice = c.slice; slots = slice_set c.slots c.count x; count = c.count + 1 }
+added c x = record { slots = slice_set c.slots c.count x; count = c.count + 1 }
 
 abbrev pub pushed : {X : Type 0} → Contents X → X → Contents X
 pushed c x = cond (has_room c) (added c x) c

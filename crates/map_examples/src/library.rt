@@ -4,7 +4,6 @@ use fields::endian::Endianness;
 use fields::symbol::Nlist;
 use fields::width::Width;
 use list::list::List;
-use reader::lists::Listing;
 use reader::reading::Reading;
 use reader::state::StepAnswer;
 use reader::walk::open;
@@ -79,7 +78,7 @@ pub(crate) fn span<W: Width>(index: u64, len: u64) -> Span {
 // The place of the symbol of a number, after strings of a length.
 pub(crate) fn symbol_place<W: Width>(strings: usize, number: u64) -> u64 {
     let first = u64::from(strings_at::<W>()).saturating_add(strings as u64);
-    first.saturating_add(number.saturating_mul(Nlist::size::<W>()))
+    first.saturating_add(number.saturating_mul(W::either(12, 16)))
 }
 
 pub(crate) fn library<W: Width>(
@@ -110,13 +109,11 @@ pub(crate) fn reading_of<'a, W: Width + Drop>(
 ) -> Result<Reading<Plain<'a>, W>, Fail> {
     let mut segments = [SegmentRecord::default(); 1];
     let mut sections = [SectionRecord::default(); 1];
-    let mut listing = Listing {
-        segments: List::new(&mut segments),
-        sections: List::new(&mut sections),
-    };
+    let mut segments = List::new(&mut segments);
+    let mut sections = List::new(&mut sections);
     let mut walk = open(Plain(bytes), width).map_err(|(e, _)| e)?;
     for expected in [StepAnswer::Symbols, StepAnswer::End] {
-        assert_eq!(rt; walk.step(&mut listing)?, expected);
+        assert_eq!(rt; walk.step(&mut segments, &mut sections)?, expected);
     }
     Ok(walk.finish().map_err(|(e, _)| e)?)
 }

@@ -4,7 +4,6 @@ use fields::endian::Endianness;
 use fields::symbol::Nlist;
 use fields::width::{Bits32, Bits64, Width};
 use list::list::List;
-use reader::lists::ObjectMap;
 use reader::reading::Reading;
 use reader::state::MapAnswer;
 use source::plain::Plain;
@@ -43,11 +42,15 @@ fn entry<W: Width>(address: u64, size: u64, index: u64, file: u64) -> MapEntry {
 fn steps<W: Width>(
     rt: &impl Abort,
     reading: &mut Reading<Plain, W>,
-    map: &mut ObjectMap,
+    files: &mut List<MapFile>,
+    entries: &mut List<MapEntry>,
     expected: &[Result<MapAnswer, Said>],
 ) {
     for answer in expected {
-        assert_eq!(rt; reading.map_step(map).map_err(Said::from), *answer);
+        assert_eq!(rt;
+            reading.map_step(files, entries).map_err(Said::from),
+            *answer
+        );
     }
 }
 
@@ -63,19 +66,23 @@ fn maps_to<W: Width + Drop>(
 ) -> Result<(), Fail> {
     let mut files = [MapFile::default(); 2];
     let mut entries = [MapEntry::default(); 3];
-    let mut map = ObjectMap {
-        files: List::new(&mut files),
-        entries: List::new(&mut entries),
-    };
+    let mut files = List::new(&mut files);
+    let mut entries = List::new(&mut entries);
     let bytes = library::<W>(heap, endian, STRINGS, symbols)?;
     let mut reading = reading_of(rt, &bytes, width)?;
     for _ in symbols {
-        steps(rt, &mut reading, &mut map, &[Ok(MapAnswer::Passed)]);
+        steps(
+            rt,
+            &mut reading,
+            &mut files,
+            &mut entries,
+            &[Ok(MapAnswer::Passed)],
+        );
     }
     let end = Ok(MapAnswer::End);
-    steps(rt, &mut reading, &mut map, &[end, end]);
-    assert_eq!(rt; map.files.records(), files_expected);
-    assert_eq!(rt; map.entries.records(), entries_expected);
+    steps(rt, &mut reading, &mut files, &mut entries, &[end, end]);
+    assert_eq!(rt; files.records(), files_expected);
+    assert_eq!(rt; entries.records(), entries_expected);
     Ok(())
 }
 
@@ -182,27 +189,32 @@ fn a_full_list_refuses_and_nothing_changes(rt: HostRuntime) -> Result<(), Fail> 
     let end = Ok(MapAnswer::End);
     let first = Err((7, Level::Reading, symbol_place::<Bits64>(21, 0)));
     let third = Err((7, Level::Reading, symbol_place::<Bits64>(21, 2)));
+    let mut full_files = List::new(&mut no_files);
+    let mut full_entries = List::new(&mut no_entries);
+    let mut files = List::new(&mut file_slots);
+    let mut entries = List::new(&mut entry_slots);
     // No room for a file
-    let mut map = ObjectMap {
-        files: List::new(&mut no_files),
-        entries: List::new(&mut entry_slots),
-    };
-    steps(&rt, &mut reading, &mut map, &[first, first]);
-    let ObjectMap { files: _, entries } = map;
+    steps(
+        &rt,
+        &mut reading,
+        &mut full_files,
+        &mut entries,
+        &[first, first],
+    );
     // No room for an entry
-    let mut map = ObjectMap {
-        files: List::new(&mut file_slots),
-        entries: List::new(&mut no_entries),
-    };
-    steps(&rt, &mut reading, &mut map, &[passed, passed, third, third]);
-    let ObjectMap { files, entries: _ } = map;
+    steps(
+        &rt,
+        &mut reading,
+        &mut files,
+        &mut full_entries,
+        &[passed, passed, third, third],
+    );
     // Room for both
-    let mut map = ObjectMap { files, entries };
-    assert_eq!(rt; map.entries.count(), 0);
-    steps(&rt, &mut reading, &mut map, &[passed, end]);
+    assert_eq!(rt; entries.count(), 0);
+    steps(&rt, &mut reading, &mut files, &mut entries, &[passed, end]);
     let file = file::<Bits64>((4, 3), None);
-    assert_eq!(rt; map.files.records(), [file].as_slice());
+    assert_eq!(rt; files.records(), [file].as_slice());
     let entry = entry::<Bits64>(16, 8, 2, 0);
-    assert_eq!(rt; map.entries.records(), [entry].as_slice());
+    assert_eq!(rt; entries.records(), [entry].as_slice());
     Ok(())
 }

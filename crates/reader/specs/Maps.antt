@@ -4,18 +4,18 @@ use Rattle.source.specs.declared.refusal.Reason.TheVariants.{ListFull}
 use Rattle.source.specs.declared.refusal.Refusal.{Refusal}
 use Rattle.source.specs.declared.span.Span.{Span}
 use Rattle.source.specs.Refusals.{refusal}
-use Rattle.list.specs.Contents.{Contents, has_room, pushed}
+use Rattle.list.specs.declared.list.List.{List}
+use Rattle.list.specs.Contents.{Contents, contents_of, has_room, pushed}
 use Rattle.stabs.specs.declared.cursor.Addition.{Addition}
 use Rattle.stabs.specs.declared.cursor.Addition.TheVariants.{File, Entry}
 use Rattle.stabs.specs.declared.cursor.MapCursor.{MapCursor}
 use Rattle.stabs.specs.declared.map.MapEntry.{MapEntry}
 use Rattle.stabs.specs.declared.map.MapFile.{MapFile}
 use Rattle.stabs.specs.declared.stab.Stab.{Stab}
-use Rattle.stabs.specs.Cursors.{begun, told, left}
+use Rattle.stabs.specs.Cursors.{begun, told_if, left_if}
 use Rattle.stabs.specs.Splits.{split_of}
 use Rattle.stabs.specs.Stabs.{stab_of}
 use Rattle.symbols.specs.Names.{name_span}
-use Rattle.reader.specs.declared.lists.ObjectMap.{ObjectMap}
 use Rattle.reader.specs.declared.state.MapAnswer.{MapAnswer}
 use Rattle.reader.specs.declared.state.MapAnswer.TheVariants.{Passed, End}
 use Rattle.reader.specs.declared.state.MapState.{MapState}
@@ -30,15 +30,6 @@ map_begun = record { passed = 0; cursor = begun }
 -- what a symbol means to the map
 abbrev pub stab_for : Row ℕ → TableSymbol → Option Stab
 stab_for xs x = stab_of x.nlist.n_type (name_span xs x.table x.nlist.n_strx) x.nlist.n_value
-
--- what a symbol adds, and the cursor past it: one that means nothing to the map adds nothing and leaves it
-abbrev pub told_if : MapCursor → Option Stab → Option Addition
-told_if c (Some s) = told c s
-told_if c None = None
-
-abbrev pub left_if : MapCursor → Option Stab → ℕ → MapCursor
-left_if c (Some s) files = left c s files
-left_if c None files = c
 
 -- the object file of a name
 abbrev pub file_of : Row ℕ → Span → MapFile
@@ -70,9 +61,9 @@ pub record MapStep : Type 0 where
   pub files : Contents MapFile
   pub entries : Contents MapEntry
 
--- what an object map comes to after a step that answered so and left this state
-abbrev pub map_left : Result MapAnswer Refusal → MapState → ObjectMap → MapStep
-map_left answer m l = record { answer = answer; state = m; files = l.files; entries = l.entries }
+-- what a step of the map comes to that answered so and left this state and these lists
+abbrev pub map_left : Result MapAnswer Refusal → MapState → List MapFile → List MapEntry → MapStep
+map_left answer m files entries = record { answer = answer; state = m; files = contents_of files; entries = contents_of entries }
 
 -- a symbol is passed only where there is room for what it adds
 abbrev pub passed_if : Result MapAnswer Refusal → MapState → MapCursor → MapState

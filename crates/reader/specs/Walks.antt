@@ -3,7 +3,8 @@ use Rattle.std.specs.Prelude.{ℕ, ◌+◌, ◌-◌, ◌^◌, min, Bool, true, f
 use Rattle.source.specs.declared.refusal.Reason.TheVariants.{ShortHeader, WrongMagic, ListFull}
 use Rattle.source.specs.declared.refusal.Refusal.{Refusal}
 use Rattle.source.specs.Refusals.{refusal}
-use Rattle.list.specs.Contents.{Contents, free, pushed}
+use Rattle.list.specs.declared.list.List.{List}
+use Rattle.list.specs.Contents.{Contents, contents_of, free, pushed}
 use Rattle.fields.specs.declared.endian.Endianness.{Endianness}
 use Rattle.fields.specs.declared.endian.Endianness.TheVariants.{Big}
 use Rattle.fields.specs.declared.load_command.LoadCommand.{LoadCommand}
@@ -13,7 +14,6 @@ use Rattle.fields.specs.Records.{header, header_size, endian_of}
 use Rattle.sections.specs.declared.record.SectionRecord.{SectionRecord}
 use Rattle.sections.specs.declared.record.SegmentRecord.{SegmentRecord}
 use Rattle.sections.specs.Listings.{filled}
-use Rattle.reader.specs.declared.lists.Listing.{Listing}
 use Rattle.reader.specs.declared.state.Damage.{Damage}
 use Rattle.reader.specs.declared.state.Deed.{Deed}
 use Rattle.reader.specs.declared.state.Deed.TheVariants.{List as ListIt, Remember}
@@ -72,18 +72,19 @@ pub record Step : Type 0 where
   pub segments : Contents SegmentRecord
   pub sections : Contents SectionRecord
 
--- what a listing comes to after a step that answered so and left this state
-abbrev pub step_left : Result StepAnswer Refusal → State → Listing → Step
-step_left answer w l = record { answer = answer; state = w; segments = l.segments; sections = l.sections }
-
--- the same of a command that was taken: an answer and the state past it, or a refusal, which leaves the state as it was
-abbrev pub left_by : Result (StepAnswer × State) Refusal → State → Listing → Step
-left_by (Ok p) w l = step_left (Ok p.0) p.1 l
-left_by (Err e) w l = step_left (Err e) w l
+-- what a step comes to that answered so and left this state and these lists
+abbrev pub step_left : Result StepAnswer Refusal → State → List SegmentRecord → List SectionRecord → Step
+step_left answer w segments sections = record { answer = answer; state = w; segments = contents_of segments; sections = contents_of sections }
 
 -- past a command
 abbrev pub moved : State → LoadCommand → Option SymtabCommand → State
 moved w c t = record w { place = w.place + c.cmdsize; left = w.left - 1; symtab = t }
+
+-- the same of a command that was taken: an answer and the symbol table that is known past it, or a refusal, which
+-- leaves the state as it was
+abbrev pub left_by : Result (StepAnswer × Option SymtabCommand) Refusal → State → LoadCommand → List SegmentRecord → List SectionRecord → Step
+left_by (Ok p) w c segments sections = step_left (Ok p.0) (moved w c p.1) segments sections
+left_by (Err e) w c segments sections = step_left (Err e) w segments sections
 
 abbrev pub ended : State → State
 ended w = record w { over = true }

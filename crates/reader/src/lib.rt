@@ -3,7 +3,7 @@
 // into lists that the caller lends. Below stand the crates that know the records; above, programs.
 #![tactic(auto)]
 
-pub mod lists;
+mod lists;
 pub mod reading;
 pub mod state;
 pub mod table;

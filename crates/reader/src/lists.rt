@@ -1,5 +1,7 @@
-// The lists that a reading fills, each over slots that the caller lends, and what a step adds to them.
+// What is added to the lists that a reading fills: each is lent by who calls, and lies over slots that are
+// lent.
 ghost use Rattle.std.specs.Prelude.{◌≡◌};
+ghost use Rattle.list.specs.Contents.{contents_of};
 ghost use Rattle.reader.specs.Maps.{add_answer, add_file, add_entry};
 ghost use Rattle.reader.specs.Walks.{list_answer, listed_segments, listed_sections};
 
@@ -13,69 +15,57 @@ use stabs::cursor::Addition;
 use stabs::map::{MapEntry, MapFile};
 use stabs::split::split_object_name;
 
-// What the steps of a walk list: the segments, and the sections of all of them in their order.
-#[derive(Drop)]
-pub struct Listing<'a> {
-    pub segments: List<'a, SegmentRecord>,
-    pub sections: List<'a, SectionRecord>,
-}
-
-impl<'a> Listing<'a> {
-    // Lists a segment and its sections, or, where a list lacks room, nothing.
-    pub(crate) fn add<S: Source, W: Width>(
-        &mut self,
-        source: &S,
-        plan: SegmentPlan,
-    ) -> Result<StepAnswer, Refusal>
-        ensures answer { result ≡ list_answer plan self.old.segments self.old.sections }
-        ensures segments { self.new.segments ≡ listed_segments plan self.old.segments self.old.sections }
-        ensures sections { self.new.sections ≡ listed_sections W.Width.wide (S.Source.bytes source.now) plan self.old.segments self.old.sections }
-    {
-        let table = plan.table;
-        // No From leads from a usize or to one; a cast is proved to lose nothing.
-        if self.segments.free() == 0 || self.sections.free() < table.count as usize {
-            return Err(Reason::ListFull.at(table.command));
-        }
-        let record = SegmentRecord {
-            place: table.command,
-            // With no section to list, the count may stand at its limit, and no number is needed.
-            first: (self.sections.count() as u64).saturating_add(1),
-            count: table.count,
-            wrapped: plan.wrapped,
-        };
-        table.list_sections::<S, W>(source, plan.offsets, &mut self.sections);
-        self.segments.push(record, table.command)?;
-        Ok(StepAnswer::Segment)
+// Lists a segment and its sections, or, where a list lacks room, nothing.
+pub(crate) fn list_segment<S: Source, W: Width>(
+    source: &S,
+    plan: SegmentPlan,
+    segments: &mut List<SegmentRecord>,
+    sections: &mut List<SectionRecord>,
+) -> Result<StepAnswer, Refusal>
+    ensures answer { result ≡ list_answer plan (contents_of segments.old) (contents_of sections.old) }
+    ensures segments { contents_of segments.new ≡ listed_segments plan (contents_of segments.old) (contents_of sections.old) }
+    ensures sections { contents_of sections.new ≡ listed_sections W.Width.wide (S.Source.bytes source.now) plan (contents_of segments.old) (contents_of sections.old) }
+    ensures segments_owner { segments.new.slots.ghost_name ≡ segments.old.slots.ghost_name }
+    ensures sections_owner { sections.new.slots.ghost_name ≡ sections.old.slots.ghost_name }
+{
+    let table = plan.table;
+    // No From leads from a usize or to one; a cast is proved to lose nothing.
+    if segments.free() == 0 || sections.free() < table.count as usize {
+        return Err(Reason::ListFull.at(table.command));
     }
+    let record = SegmentRecord {
+        place: table.command,
+        // With no section to list, the count may stand at its limit, and no number is needed.
+        first: (sections.count() as u64).saturating_add(1),
+        count: table.count,
+        wrapped: plan.wrapped,
+    };
+    table.list_sections::<S, W>(source, plan.offsets, sections);
+    segments.push(record, table.command)?;
+    Ok(StepAnswer::Segment)
 }
 
-// What the steps of the object map list: the object files, and the entries that name them.
-#[derive(Drop)]
-pub struct ObjectMap<'a> {
-    pub files: List<'a, MapFile>,
-    pub entries: List<'a, MapEntry>,
-}
-
-impl<'a> ObjectMap<'a> {
-    // Adds what a symbol adds, if anything, where there is room, or else nothing.
-    pub(crate) fn add<S: Source>(
-        &mut self,
-        source: &S,
-        addition: Option<Addition>,
-        place: u64,
-    ) -> Result<MapAnswer, Refusal>
-        ensures answer { result ≡ add_answer addition place self.old.files self.old.entries }
-        ensures files { self.new.files ≡ add_file (S.Source.bytes source.now) addition self.old.files }
-        ensures entries { self.new.entries ≡ add_entry addition self.old.entries }
-    {
-        match addition {
-            Some(Addition::File(name)) => {
-                let (path, member) = split_object_name(source, name);
-                self.files.push(MapFile { path, member }, place)?;
-            }
-            Some(Addition::Entry(entry)) => self.entries.push(entry, place)?,
-            None => {}
+// Adds what a symbol adds to the object map, if anything, where there is room, or else nothing.
+pub(crate) fn add<S: Source>(
+    source: &S,
+    addition: Option<Addition>,
+    place: u64,
+    files: &mut List<MapFile>,
+    entries: &mut List<MapEntry>,
+) -> Result<MapAnswer, Refusal>
+    ensures answer { result ≡ add_answer addition place (contents_of files.old) (contents_of entries.old) }
+    ensures files { contents_of files.new ≡ add_file (S.Source.bytes source.now) addition (contents_of files.old) }
+    ensures entries { contents_of entries.new ≡ add_entry addition (contents_of entries.old) }
+    ensures files_owner { files.new.slots.ghost_name ≡ files.old.slots.ghost_name }
+    ensures entries_owner { entries.new.slots.ghost_name ≡ entries.old.slots.ghost_name }
+{
+    match addition {
+        Some(Addition::File(name)) => {
+            let (path, member) = split_object_name(source, name);
+            files.push(MapFile { path, member }, place)?;
         }
-        Ok(MapAnswer::Passed)
+        Some(Addition::Entry(entry)) => entries.push(entry, place)?,
+        None => {}
     }
+    Ok(MapAnswer::Passed)
 }

@@ -3,14 +3,14 @@ ghost use Rattle.std.specs.Prelude.{◌≡◌};
 ghost use Rattle.std.specs.Option.{ok_or};
 ghost use Rattle.source.specs.declared.refusal.Reason.TheVariants.{UnknownNumber};
 ghost use Rattle.source.specs.Refusals.{refusal};
-ghost use Rattle.list.specs.Contents.{records};
+ghost use Rattle.list.specs.Contents.{contents_of, records};
 ghost use Rattle.fields.specs.Names.{name_at};
 ghost use Rattle.sections.specs.Queries.{matching};
-ghost use Rattle.reader.specs.Maps.{told_if, left_if, map_left, map_step_of};
+ghost use Rattle.reader.specs.Maps.{map_left, map_step_of};
 ghost use Rattle.reader.specs.Readings.{section_of, find_in};
 ghost use Rattle.reader.specs.Tables.{symbol_at, symbol_answer, name_answer};
 
-use crate::lists::ObjectMap;
+use crate::lists::add;
 use crate::state::{MapAnswer, MapState, State};
 use crate::table::TableSymbol;
 use fields::name::Name;
@@ -21,19 +21,10 @@ use sections::record::SectionRecord;
 use source::refusal::{Reason, Refusal};
 use source::source::Source;
 use source::span::Span;
-use stabs::cursor::{Addition, MapCursor};
-use stabs::stab::{Stab, stab_of};
+use stabs::map::{MapEntry, MapFile};
+use stabs::stab::stab_of;
 use symbols::symbol::Symbol;
 use symbols::table::SymbolTable;
-
-// Goes past a symbol, where so many files are listed before it. One that means nothing to the map
-// adds nothing.
-fn pass(cursor: &mut MapCursor, stab: Option<Stab>, files: u64) -> Option<Addition>
-    ensures answer { result ≡ told_if cursor.old stab }
-    ensures after { cursor.new ≡ left_if cursor.old stab files }
-{
-    cursor.advance(stab?, files)
-}
 
 // A walk that was finished. Only `finish` makes one, and it is not copied.
 #[derive(Drop)]
@@ -51,7 +42,7 @@ impl<S: Source, W: Width> Reading<S, W> {
         sections: &List<SectionRecord>,
         number: u64,
     ) -> Result<SectionRecord, Refusal>
-        ensures { result ≡ section_of sections.now number }
+        ensures { result ≡ section_of (contents_of sections.now) number }
     {
         let unknown = Reason::UnknownNumber.at(number);
         let position = number.checked_sub(1).ok_or(unknown)?;
@@ -68,7 +59,7 @@ impl<S: Source, W: Width> Reading<S, W> {
 
     // The record of the first section whose name the query means.
     pub fn find(&self, sections: &List<SectionRecord>, query: &[u8]) -> Option<SectionRecord>
-        ensures { result ≡ find_in (S.Source.bytes self.now.source) query.now (records sections.now) }
+        ensures { result ≡ find_in (S.Source.bytes self.now.source) query.now (records (contents_of sections.now)) }
     {
         sections
             .records()
@@ -103,7 +94,7 @@ impl<S: Source, W: Width> Reading<S, W> {
         sections: &List<SectionRecord>,
         number: u64,
     ) -> Result<Option<Symbol>, Refusal>
-        ensures { result ≡ symbol_answer W.Width.wide (S.Source.bytes self.now.source) self.now.state sections.now number }
+        ensures { result ≡ symbol_answer W.Width.wide (S.Source.bytes self.now.source) self.now.state (contents_of sections.now) number }
     {
         let found = self.known_symbol(number)?;
         Ok(self.table_of(found).symbol(sections, found.nlist))
@@ -121,10 +112,16 @@ impl<S: Source, W: Width> Reading<S, W> {
     }
 
     // Passes one symbol of the object map. Refused, nothing changes.
-    pub fn map_step(&mut self, objects: &mut ObjectMap) -> Result<MapAnswer, Refusal>
-        ensures step { map_left result self.new.map objects.new ≡ map_step_of W.Width.wide (S.Source.bytes self.old.source) self.old.state self.old.map objects.old.files objects.old.entries }
+    pub fn map_step(
+        &mut self,
+        files: &mut List<MapFile>,
+        entries: &mut List<MapEntry>,
+    ) -> Result<MapAnswer, Refusal>
+        ensures step { map_left result self.new.map files.new entries.new ≡ map_step_of W.Width.wide (S.Source.bytes self.old.source) self.old.state self.old.map (contents_of files.old) (contents_of entries.old) }
         ensures source { self.new.source ≡ self.old.source }
         ensures state { self.new.state ≡ self.old.state }
+        ensures files_owner { files.new.slots.ghost_name ≡ files.old.slots.ghost_name }
+        ensures entries_owner { entries.new.slots.ghost_name ≡ entries.old.slots.ghost_name }
     {
         let number = u64::from(self.map.passed);
         let Some(symbol) = self.state.symbol_at::<S, W>(&self.source, number) else {
@@ -133,9 +130,8 @@ impl<S: Source, W: Width> Reading<S, W> {
         let stab = stab_of(&self.table_of(symbol), symbol.nlist);
         let mut cursor = self.map.cursor;
         // No From leads from usize to u64; the cast is proved to lose nothing.
-        let files = objects.files.count() as u64;
-        let addition = pass(&mut cursor, stab, files);
-        let answer = objects.add(&self.source, addition, symbol.place)?;
+        let addition = cursor.advance(stab, files.count() as u64);
+        let answer = add(&self.source, addition, symbol.place, files, entries)?;
         self.map = MapState {
             passed: self.map.passed + 1,
             cursor,

@@ -1,6 +1,5 @@
 // What a walk keeps from step to step, and what a step answers.
 ghost use Rattle.std.specs.Prelude.{◌≡◌};
-ghost use Rattle.reader.specs.Walks.{ended};
 
 use fields::endian::Endianness;
 use fields::load_command::SymtabCommand;
@@ -24,21 +23,14 @@ pub struct State {
 
 impl State {
     // A source, in the byte order of its header.
-    pub(crate) fn fields<S>(self, source: &S) -> Fields<S>
+    pub(crate) fn fields<'a, S>(&self, source: &'a S) -> Fields<'a, S>
         ensures source { result.source.now ≡ source.now }
-        ensures endian { result.endian ≡ self.endian }
+        ensures endian { result.endian ≡ self.now.endian }
     {
         Fields {
             source,
             endian: self.endian,
         }
-    }
-
-    // The walk come to its end.
-    pub(crate) fn ended(self) -> State
-        ensures { result ≡ ended self }
-    {
-        State { over: true, ..self }
     }
 }
 

@@ -20,11 +20,11 @@ impl State {
     // The symbol of a number, from 0.
     #[tactic(auto, unfolding(crate::specs::Tables::symbol_at))]
     pub(crate) fn symbol_at<S: Source, W: Width>(
-        self,
+        &self,
         source: &S,
         number: u64,
     ) -> Option<TableSymbol>
-        ensures value { result ≡ symbol_at W.Width.wide (S.Source.bytes source.now) self number }
+        ensures value { result ≡ symbol_at W.Width.wide (S.Source.bytes source.now) self.now number }
         ensures counted { Counted number result }
     {
         let table = self.symtab?;

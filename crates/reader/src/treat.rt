@@ -1,9 +1,10 @@
 // What the next command is, what it asks for, and what comes of it.
-ghost use Rattle.std.specs.Prelude.{◌≡◌, ◌+◌, ◌^◌, ◌<◌, ◌≤◌, length, MatchOption, MatchResult, Ok, Err, Some, None};
+ghost use Rattle.std.specs.Prelude.{◌≡◌, ◌+◌, ◌^◌, ◌<◌, ◌≤◌, length, IfOk, IfSome, Ok, Err, Some, None};
+ghost use Rattle.list.specs.Contents.{contents_of};
 ghost use Rattle.reader.specs.Walks.{left_by, taken_of};
 ghost use Rattle.reader.specs.Commands.{next_of, read_only_in, plan_of, symtab_of, deed_of};
 
-use crate::lists::Listing;
+use crate::lists::list_segment;
 use crate::state::{Damage, Deed, SegmentPlan, State, StepAnswer};
 use fields::load_command::{LoadCommand, SymtabCommand};
 use fields::number::Fields;
@@ -11,8 +12,9 @@ use fields::section::Section;
 use fields::segment::Segment;
 use fields::symbol::Nlist;
 use fields::width::Width;
+use list::list::List;
 use sections::offset::SectionOffsets;
-use sections::record::SectionTable;
+use sections::record::{SectionRecord, SectionTable, SegmentRecord};
 use source::refusal::{Reason, Refusal};
 use source::source::Source;
 
@@ -31,22 +33,22 @@ pub const SG_READ_ONLY: u32 = 0x10;
 // The command that a step comes to, where it stands: it lies inside the source, and is counted.
 #[derive(Drop)]
 pub(crate) struct NextCommand<'a, S: Source> {
-    source: &'a S,
-    state: State,
-    command: LoadCommand,
-    ghost ends_inside: { state.place + command.cmdsize ≤ length (S.Source.bytes source.now) },
-    ghost has_end: { state.place + command.cmdsize < 2 ^ 64 },
-    ghost counted: { 1 ≤ state.left },
+    pub(crate) source: &'a S,
+    pub(crate) state: &'a State,
+    pub(crate) command: LoadCommand,
+    ghost ends_inside: { state.now.place + command.cmdsize ≤ length (S.Source.bytes source.now) },
+    ghost has_end: { state.now.place + command.cmdsize < 2 ^ 64 },
+    ghost counted: { 1 ≤ state.now.left },
 }
 
 impl State {
     // The command that a step comes to, if any is left.
     #[tactic(auto, unfolding(crate::specs::Commands::next_of))]
-    pub(crate) fn next_command<S: Source>(
-        self,
-        source: &S,
-    ) -> Result<Option<NextCommand<S>>, Damage>
-        ensures { MatchResult result (λ o. MatchOption o (next_of (S.Source.bytes source.now) self ≡ Ok None) (λ c. (next_of (S.Source.bytes source.now) self ≡ Ok (Some c.command)) × (c.state ≡ self) × (c.source.now ≡ source.now))) (λ e. next_of (S.Source.bytes source.now) self ≡ Err e) }
+    pub(crate) fn next_command<S: Source>(&self, source: &S) -> Result<Option<LoadCommand>, Damage>
+        ensures value { result ≡ next_of (S.Source.bytes source.now) self.now }
+        ensures ends_inside { IfOk result (λ o. IfSome o (λ c. self.now.place + c.cmdsize ≤ length (S.Source.bytes source.now))) }
+        ensures has_end { IfOk result (λ o. IfSome o (λ c. self.now.place + c.cmdsize < 2 ^ 64)) }
+        ensures counted { IfOk result (λ o. IfSome o (λ c. 1 ≤ self.now.left)) }
     {
         if self.over {
             return Ok(None);
@@ -65,16 +67,12 @@ impl State {
         if u64::from(command.cmdsize) < LoadCommand::SIZE || u64::from(command.cmdsize) > rest {
             return Err(Damage);
         }
-        Ok(Some(NextCommand {
-            source,
-            state: self,
-            command,
-        }))
+        Ok(Some(command))
     }
 
     // What a segment says of writing; in an object file, nothing.
-    fn read_only(self, segment: Segment) -> Option<bool>
-        ensures { result ≡ read_only_in self.filetype segment }
+    fn read_only(&self, segment: Segment) -> Option<bool>
+        ensures { result ≡ read_only_in self.now.filetype segment }
     {
         if self.filetype == MH_OBJECT {
             return None;
@@ -85,33 +83,35 @@ impl State {
 }
 
 impl<'a, S: Source> NextCommand<'a, S> {
-    // Does what it asks for, and gives the state past it. Refused, it changes nothing.
+    // Does what it asks for: what a step answers, and where the symbols are then known to be. Refused, it
+    // changes nothing.
     pub(crate) fn take<W: Width>(
         &self,
-        listing: &mut Listing,
-    ) -> Result<(StepAnswer, State), Refusal>
-        ensures { left_by result self.now.state listing.new ≡ taken_of W.Width.wide (S.Source.bytes self.now.source.now) self.now.state self.now.command listing.old.segments listing.old.sections }
+        segments: &mut List<SegmentRecord>,
+        sections: &mut List<SectionRecord>,
+    ) -> Result<(StepAnswer, Option<SymtabCommand>), Refusal>
+        ensures taken { left_by result self.now.state.now self.now.command segments.new sections.new ≡ taken_of W.Width.wide (S.Source.bytes self.now.source.now) self.now.state.now self.now.command (contents_of segments.old) (contents_of sections.old) }
+        ensures segments_owner { segments.new.slots.ghost_name ≡ segments.old.slots.ghost_name }
+        ensures sections_owner { sections.new.slots.ghost_name ≡ sections.old.slots.ghost_name }
     {
-        let mut past = State {
-            place: self.state.place + u64::from(self.command.cmdsize),
-            left: self.state.left - 1,
-            ..self.state
-        };
+        let mut symtab = self.state.symtab;
         let answer = match self.deed::<W>()? {
-            Some(Deed::List(plan)) => listing.add::<S, W>(self.source, plan)?,
-            Some(Deed::Remember(symtab)) => {
-                past.symtab = Some(symtab);
+            Some(Deed::List(plan)) => {
+                list_segment::<S, W>(self.source, plan, segments, sections)?
+            }
+            Some(Deed::Remember(found)) => {
+                symtab = Some(found);
                 StepAnswer::Symbols
             }
             None => StepAnswer::Passed,
         };
-        Ok((answer, past))
+        Ok((answer, symtab))
     }
 
     // What it asks for, if anything.
     #[tactic(auto, unfolding(crate::specs::Commands::deed_of))]
     fn deed<W: Width>(&self) -> Result<Option<Deed>, Refusal>
-        ensures { result ≡ deed_of W.Width.wide (S.Source.bytes self.now.source.now) self.now.state self.now.command }
+        ensures { result ≡ deed_of W.Width.wide (S.Source.bytes self.now.source.now) self.now.state.now self.now.command }
     {
         if self.command.cmd == W::either(LC_SEGMENT, LC_SEGMENT_64) {
             Ok(Some(Deed::List(self.segment_plan::<W>()?)))
@@ -125,7 +125,7 @@ impl<'a, S: Source> NextCommand<'a, S> {
     // The source, in the byte order of its header.
     fn fields(&self) -> Fields<S>
         ensures source { result.source.now ≡ self.now.source.now }
-        ensures endian { result.endian ≡ self.now.state.endian }
+        ensures endian { result.endian ≡ self.now.state.now.endian }
     {
         self.state.fields(self.source)
     }
@@ -133,7 +133,7 @@ impl<'a, S: Source> NextCommand<'a, S> {
     // The segment of a native segment command, with its sections seen to end inside it.
     #[tactic(auto, unfolding(crate::specs::Commands::plan_of))]
     fn segment_plan<W: Width>(&self) -> Result<SegmentPlan, Refusal>
-        ensures { result ≡ plan_of W.Width.wide (S.Source.bytes self.now.source.now) self.now.state self.now.command }
+        ensures { result ≡ plan_of W.Width.wide (S.Source.bytes self.now.source.now) self.now.state.now self.now.command }
     {
         let place = self.state.place;
         let short = Reason::ShortCommand.at(place);
@@ -165,7 +165,7 @@ impl<'a, S: Source> NextCommand<'a, S> {
     // Where a symtab command says that the symbols are.
     #[tactic(auto, unfolding(crate::specs::Commands::symtab_of))]
     fn symtab<W: Width>(&self) -> Result<SymtabCommand, Refusal>
-        ensures { result ≡ symtab_of W.Width.wide (S.Source.bytes self.now.source.now) self.now.state self.now.command }
+        ensures { result ≡ symtab_of W.Width.wide (S.Source.bytes self.now.source.now) self.now.state.now self.now.command }
     {
         let place = self.state.place;
         let short = Reason::ShortCommand.at(place);

@@ -2,16 +2,19 @@
 ghost use Rattle.std.specs.Prelude.{◌≡◌, true, false, Ok, Err};
 ghost use Rattle.source.specs.declared.refusal.Reason.TheVariants.{FinishTooEarly};
 ghost use Rattle.source.specs.Refusals.{refusal};
+ghost use Rattle.list.specs.Contents.{contents_of};
 ghost use Rattle.reader.specs.Layouts.{NextSegmentIsListedAsItsOnlyLayout};
 ghost use Rattle.reader.specs.Maps.{map_begun};
 ghost use Rattle.reader.specs.Walks.{opened, step_left, step_of};
 
-use crate::lists::Listing;
 use crate::reading::Reading;
 use crate::state::{Damage, MapState, State, StepAnswer};
+use crate::treat::NextCommand;
 use fields::header::{MachHeader, endian_of};
 use fields::number::Fields;
 use fields::width::Width;
+use list::list::List;
+use sections::record::{SectionRecord, SegmentRecord};
 use source::refusal::{Reason, Refusal};
 use source::source::Source;
 use stabs::cursor::MapCursor;
@@ -65,18 +68,41 @@ pub fn open<S: Source, W: Width + Drop>(source: S, width: W) -> Result<Walk<S, W
 
 impl<S: Source, W: Width> Walk<S, W> {
     // Treats one command. Refused, nothing changes, and the same step gives the same refusal again.
-    pub fn step(&mut self, listing: &mut Listing) -> Result<StepAnswer, Refusal>
-        ensures step { step_left result self.new.state listing.new ≡ step_of W.Width.wide (S.Source.bytes self.old.source) self.old.state listing.old.segments listing.old.sections }
+    pub fn step(
+        &mut self,
+        segments: &mut List<SegmentRecord>,
+        sections: &mut List<SectionRecord>,
+    ) -> Result<StepAnswer, Refusal>
+        ensures step { step_left result self.new.state segments.new sections.new ≡ step_of W.Width.wide (S.Source.bytes self.old.source) self.old.state (contents_of segments.old) (contents_of sections.old) }
         ensures source { self.new.source ≡ self.old.source }
-        ensures layout { NextSegmentIsListedAsItsOnlyLayout W.Width.wide (S.Source.bytes self.old.source) self.old.state listing.old.segments listing.old.sections }
+        ensures segments_owner { segments.new.slots.ghost_name ≡ segments.old.slots.ghost_name }
+        ensures sections_owner { sections.new.slots.ghost_name ≡ sections.old.slots.ghost_name }
+        ensures layout { NextSegmentIsListedAsItsOnlyLayout W.Width.wide (S.Source.bytes self.old.source) self.old.state (contents_of segments.old) (contents_of sections.old) }
     {
-        let (answer, state) = match self.state.next_command(&self.source) {
-            Ok(Some(command)) => command.take::<W>(listing)?,
-            Ok(None) => (StepAnswer::End, self.state.ended()),
-            Err(Damage) => (StepAnswer::Broken, self.state.ended()),
-        };
-        self.state = state;
-        Ok(answer)
+        match self.state.next_command(&self.source) {
+            Ok(Some(command)) => {
+                let size = u64::from(command.cmdsize);
+                let next = NextCommand {
+                    source: &self.source,
+                    state: &self.state,
+                    command,
+                };
+                let (answer, symtab) = next.take::<W>(segments, sections)?;
+                // In place: a state is as long as many commands, and most steps change three words of it.
+                self.state.place += size;
+                self.state.left -= 1;
+                self.state.symtab = symtab;
+                Ok(answer)
+            }
+            Ok(None) => {
+                self.state.over = true;
+                Ok(StepAnswer::End)
+            }
+            Err(Damage) => {
+                self.state.over = true;
+                Ok(StepAnswer::Broken)
+            }
+        }
     }
 
     // The reading of a walk that has come to the end, or to damage. Any other walk is handed back.

@@ -14,13 +14,13 @@ use Rattle.stabs.specs.declared.cursor.Addition.TheVariants.{File, Entry}
 use Rattle.stabs.specs.declared.map.MapEntry.{MapEntry}
 use Rattle.stabs.specs.declared.map.MapFile.{MapFile}
 use Rattle.stabs.specs.declared.stab.Stab.{Stab}
-use Rattle.stabs.specs.Cursors.{begun}
+use Rattle.stabs.specs.Cursors.{begun, told_if, left_if}
 use Rattle.reader.specs.declared.state.MapAnswer.{MapAnswer}
 use Rattle.reader.specs.declared.state.MapState.{MapState}
 use Rattle.reader.specs.declared.state.State.{State}
 use Rattle.reader.specs.declared.state.StepAnswer.{StepAnswer}
 use Rattle.reader.specs.declared.table.TableSymbol.{TableSymbol}
-use Rattle.reader.specs.Maps.{file_of, map_begun, told_if, left_if, stab_for, map_step_of, map_by, add_answer, add_file, add_entry, passed_if}
+use Rattle.reader.specs.Maps.{file_of, map_begun, stab_for, map_step_of, map_by, add_answer, add_file, add_entry, passed_if}
 use Rattle.reader.specs.Readings.{section_of, find_in}
 use Rattle.reader.specs.Tables.{symbol_at, symbol_answer, name_answer, symbol_in as symbol_of_table, symbol_place, in_table}
 use Rattle.reader.specs.Walks.{opened, step_of}

@@ -12,8 +12,7 @@ use Rattle.stabs.specs.declared.map.MapEntry.{MapEntry}
 use Rattle.stabs.specs.declared.map.MapFile.{MapFile}
 use Rattle.stabs.specs.declared.stab.Stab.{Stab}
 use Rattle.stabs.specs.declared.stab.Stab.TheVariants.{Source, Object, Opening, Closing, Static}
-use Rattle.stabs.specs.Cursors.{begun, closed, static}
-use Rattle.reader.specs.Maps.{told_if, left_if}
+use Rattle.stabs.specs.Cursors.{begun, closed, static, told_if, left_if}
 use Rattle.replay.specs.Maps.{none_made, same_made, more_made, OpensFile, EndsFile, by_source, by_unnamed, by_named, FilesBefore, Under, OpenAt, Makes, variable, function}
 use Rattle.replay.specs.Maps.{MapIsRight}
 use Rattle.replay.specs.MapKept.{PendingAt, CurrentAt, MapKept}
@@ -179,7 +178,7 @@ module _ (stab_at : ℕ → Option Stab) (file_for : Span → MapFile) (files_be
   pub begun_kept : files_before.count ≡ 0 → entries_before.count ≡ 0 → Kept 0 begun files_before entries_before
   begun_kept f e =
       record {
-        right = record { files = rw f none_made; entries = rw e none_made; files_kept = record { same_slice = refl; same_size = refl; same_rest = refl }; entries_kept = record { same_slice = refl; same_size = refl; same_rest = refl } };
+        right = record { files = rw f none_made; entries = rw e none_made; files_kept = record { same_size = refl; same_rest = refl }; entries_kept = record { same_size = refl; same_rest = refl } };
         pending = λ j n a o. let h = o.before in omega arith;
         current = λ i u. let h = u.before in omega arith;
         counted = ([], none_made, sym f);

@@ -23,13 +23,12 @@ pub record Grown {X : Type 0} (before now : Contents X) : Type 0 where
   pub kept : RestKept before now
 
 pub grown_none : {X : Type 0} (l : Contents X) → l.count ≡ 0 → Grown l l
-grown_none l e = record { fits = omega arith; kept = record { same_slice = refl; same_size = refl; same_rest = refl } }
+grown_none l e = record { fits = omega arith; kept = record { same_size = refl; same_rest = refl } }
 
 -- a record more takes the first slot that is not in use, and leaves the rest
 pub rest-added : {X : Type 0} (before l : Contents X) (x : X) → RestKept before l → RestKept before (added l x)
 rest-added before l x h =
     record {
-      same_slice = h.same_slice;
       same_size = length-set l.slots l.count x ∙ h.same_size;
       same_rest =
           drop-set-lt (l.count + 1) l.slots l.count x (omega arith)

@@ -18,7 +18,8 @@ use Rattle.reader.specs.declared.state.MapAnswer.TheVariants.{Passed}
 use Rattle.reader.specs.declared.state.MapState.{MapState}
 use Rattle.reader.specs.declared.state.State.{State}
 use Rattle.reader.specs.declared.table.TableSymbol.{TableSymbol}
-use Rattle.reader.specs.Maps.{map_begun, told_if, left_if, file_of, stab_for, MapStep as Outcome, map_by, add_answer, add_file, add_entry, room_for, passed_if}
+use Rattle.stabs.specs.Cursors.{told_if, left_if}
+use Rattle.reader.specs.Maps.{map_begun, file_of, stab_for, MapStep as Outcome, map_by, add_answer, add_file, add_entry, room_for, passed_if}
 use Rattle.reader.specs.Tables.{symbol_at, symbol_by}
 use Rattle.reader.specs.Walks.{opened}
 use Rattle.replay.specs.declared.calls.Answer.TheVariants.{Stepped, Listed, Found, Known, Mapped}

@@ -3,7 +3,8 @@ use Rattle.std.specs.Prelude.{ℕ, Bool, true, false, List as Row, [], ◌∷◌
 use Rattle.source.specs.declared.refusal.Reason.TheVariants.{FinishTooEarly}
 use Rattle.source.specs.declared.refusal.Refusal.{Refusal}
 use Rattle.source.specs.Refusals.{refusal}
-use Rattle.list.specs.Contents.{Contents, records, pushed}
+use Rattle.list.specs.declared.list.List.{List}
+use Rattle.list.specs.Contents.{Contents, contents_of, records, pushed}
 use Rattle.sections.specs.declared.record.SectionRecord.{SectionRecord}
 use Rattle.sections.specs.declared.record.SegmentRecord.{SegmentRecord}
 use Rattle.stabs.specs.declared.map.MapEntry.{MapEntry}
@@ -18,7 +19,6 @@ use Rattle.replay.specs.declared.calls.Answer.{Answer}
 use Rattle.replay.specs.declared.calls.Answer.TheVariants.{Stepped, Finished, Listed, Found, Known, Named, Mapped, Refused, Skipped}
 use Rattle.replay.specs.declared.calls.Call.{Call}
 use Rattle.replay.specs.declared.calls.Call.TheVariants.{Step, Finish, Section, Find, Symbol, Name, MapStep}
-use Rattle.replay.specs.declared.lists.Lists.{Lists as Filled}
 
 pub record Lists : Type 0 where
   pub segments : Contents SegmentRecord
@@ -26,14 +26,8 @@ pub record Lists : Type 0 where
   pub files : Contents MapFile
   pub entries : Contents MapEntry
 
-abbrev pub lists_of : Filled → Lists
-lists_of l =
-    record {
-      segments = l.listing.segments;
-      sections = l.listing.sections;
-      files = l.map.files;
-      entries = l.map.entries;
-    }
+abbrev pub lists_of : List SegmentRecord → List SectionRecord → List MapFile → List MapEntry → Lists
+lists_of a b c d = record { segments = contents_of a; sections = contents_of b; files = contents_of c; entries = contents_of d }
 
 -- where a run is: whether the walk is finished, its state, that of the object map, and the four lists
 pub record Run : Type 0 where

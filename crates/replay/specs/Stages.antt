@@ -1,5 +1,10 @@
 -- What a stage of a run holds. Assumes nothing.
-use Rattle.std.specs.Prelude.{Bool, true, false}
+use Rattle.std.specs.Prelude.{◌≡◌, Bool, true, false}
+use Rattle.list.specs.declared.list.List.{List}
+use Rattle.sections.specs.declared.record.SectionRecord.{SectionRecord}
+use Rattle.sections.specs.declared.record.SegmentRecord.{SegmentRecord}
+use Rattle.stabs.specs.declared.map.MapEntry.{MapEntry}
+use Rattle.stabs.specs.declared.map.MapFile.{MapFile}
 use Rattle.reader.specs.declared.state.MapState.{MapState}
 use Rattle.reader.specs.declared.state.State.{State}
 use Rattle.reader.specs.Maps.{map_begun}
@@ -26,3 +31,10 @@ map_of (Done r) = r.map
 
 abbrev pub run_at : {S W : Type 0} → Stage S W → Lists → Run
 run_at t l = record { done = done_of t; state = state_of t; map = map_of t; lists = l }
+
+-- the lists lie in the same slices
+pub record SameSlices (a : List SegmentRecord) (b : List SectionRecord) (c : List MapFile) (d : List MapEntry) (a' : List SegmentRecord) (b' : List SectionRecord) (c' : List MapFile) (d' : List MapEntry) : Type 0 where
+  pub segments : a'.slots.ghost_name ≡ a.slots.ghost_name
+  pub sections : b'.slots.ghost_name ≡ b.slots.ghost_name
+  pub files : c'.slots.ghost_name ≡ c.slots.ghost_name
+  pub entries : d'.slots.ghost_name ≡ d.slots.ghost_name

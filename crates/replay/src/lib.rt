@@ -7,5 +7,4 @@ pub mod both;
 pub mod calls;
 pub mod driver;
 pub mod laws;
-pub mod lists;
 pub mod perform;

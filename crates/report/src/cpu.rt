@@ -1,6 +1,6 @@
 // The processor that a member is for.
 ghost use Rattle.std.specs.Prelude.{◌≡◌};
-ghost use Rattle.report.specs.Cpus.{cpu_of};
+ghost use Rattle.report.specs.Cpus.{cpu_of, cputype_of};
 
 use std::fmt;
 
@@ -45,6 +45,24 @@ impl From<u32> for CpuType {
             CPU_TYPE_POWERPC64 => CpuType::PowerPc64,
             CPU_TYPE_ARM64_32 => CpuType::Arm64_32,
             n => CpuType::Other(n),
+        }
+    }
+}
+
+impl CpuType {
+    // The `cputype` that it stands for.
+    pub fn cputype(self) -> u32
+        ensures { result ≡ cputype_of self }
+    {
+        match self {
+            CpuType::I386 => CPU_TYPE_X86,
+            CpuType::Arm => CPU_TYPE_ARM,
+            CpuType::PowerPc => CPU_TYPE_POWERPC,
+            CpuType::X86_64 => CPU_TYPE_X86_64,
+            CpuType::Arm64 => CPU_TYPE_ARM64,
+            CpuType::PowerPc64 => CPU_TYPE_POWERPC64,
+            CpuType::Arm64_32 => CPU_TYPE_ARM64_32,
+            CpuType::Other(n) => n,
         }
     }
 }

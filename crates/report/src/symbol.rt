@@ -1,5 +1,6 @@
 // A line for each symbol.
 ghost use Rattle.std.specs.Prelude.{◌≡◌};
+ghost use Rattle.list.specs.Contents.{contents_of};
 ghost use Rattle.reader.specs.Tables.{symbol_answer, name_answer};
 ghost use Rattle.report.specs.Lines.{symbol_line};
 
@@ -29,7 +30,7 @@ impl SymbolLine {
         sections: &List<SectionRecord>,
         number: u64,
     ) -> Result<Option<SymbolLine>, Refusal>
-        ensures { result ≡ symbol_line number (symbol_answer W.Width.wide (S.Source.bytes reading.now.source) reading.now.state sections.now number) (name_answer W.Width.wide (S.Source.bytes reading.now.source) reading.now.state number) }
+        ensures { result ≡ symbol_line number (symbol_answer W.Width.wide (S.Source.bytes reading.now.source) reading.now.state (contents_of sections.now) number) (name_answer W.Width.wide (S.Source.bytes reading.now.source) reading.now.state number) }
     {
         let symbol = reading.symbol(sections, number)?;
         Ok(symbol.map(|symbol| SymbolLine {

@@ -4,18 +4,28 @@ use anyhow::anyhow;
 use fields::width::Width;
 use list::list::List;
 use replay::both::replay_both;
-use replay::calls::{Call, Stage};
-use replay::lists::{Lists, Log};
+use replay::calls::{Answer, Call, Stage};
 use report::room::record_slots;
 use script::same::Same;
 use script::shown::{AnswerShown, CallShown};
+use sections::record::{SectionRecord, SegmentRecord};
 use source::refusal::Refusal;
 use source::source::Source;
+use stabs::map::{MapEntry, MapFile};
 use std::alloc::{AllocError, Global};
 
-// Where two lists first differ; where one ends, if it is the other's beginning.
-fn first_difference<T: Copy + Same>(a: &List<T>, b: &List<T>) -> Option<usize> {
-    let (a, b) = (a.records(), b.records());
+// What is left of a run: the records of its lists, and the answers in the order of the calls.
+#[derive(Clone, Copy)]
+struct Outcome<'a> {
+    segments: &'a [SegmentRecord],
+    sections: &'a [SectionRecord],
+    files: &'a [MapFile],
+    entries: &'a [MapEntry],
+    answers: &'a [Answer],
+}
+
+// Where two rows first differ; where one ends, if it is the other's beginning.
+fn first_difference<T: Copy + Same>(a: &[T], b: &[T]) -> Option<usize> {
     let end = if a.len() == b.len() {
         None
     } else {
@@ -25,17 +35,17 @@ fn first_difference<T: Copy + Same>(a: &List<T>, b: &List<T>) -> Option<usize> {
 }
 
 // The first of the lists that are not alike.
-fn different_list(a: &Lists, b: &Lists) -> Option<&'static str> {
-    if first_difference(&a.listing.segments, &b.listing.segments).is_some() {
+fn different_list(a: Outcome, b: Outcome) -> Option<&'static str> {
+    if first_difference(a.segments, b.segments).is_some() {
         return Some("the list of segments");
     }
-    if first_difference(&a.listing.sections, &b.listing.sections).is_some() {
+    if first_difference(a.sections, b.sections).is_some() {
         return Some("the list of sections");
     }
-    if first_difference(&a.map.files, &b.map.files).is_some() {
+    if first_difference(a.files, b.files).is_some() {
         return Some("the list of files");
     }
-    if first_difference(&a.map.entries, &b.map.entries).is_some() {
+    if first_difference(a.entries, b.entries).is_some() {
         return Some("the list of entries");
     }
     None
@@ -84,10 +94,10 @@ fn compare<S: Source, T: Source>(
     halves: &S,
     whole: &T,
     calls: &[Call],
-    left: &Log,
-    right: &Log,
+    left: Outcome,
+    right: Outcome,
 ) -> anyhow::Result<()> {
-    if let Some(i) = first_difference(&left.answers, &right.answers) {
+    if let Some(i) = first_difference(left.answers, right.answers) {
         let (Some(call), Some(a), Some(b)) = (
             calls.get(i),
             left.answers.get(i),
@@ -97,15 +107,15 @@ fn compare<S: Source, T: Source>(
         };
         let a = AnswerShown {
             source: halves,
-            answer: a,
+            answer: *a,
         };
         let b = AnswerShown {
             source: whole,
-            answer: b,
+            answer: *b,
         };
         return tell_difference(rt, CallShown(*call), a, b);
     }
-    if let Some(what) = different_list(&left.lists, &right.lists) {
+    if let Some(what) = different_list(left, right) {
         return differ(rt, what);
     }
     println!(rt;
@@ -132,11 +142,48 @@ pub(crate) fn alike<S: Source, T: Source, W: Width + Copy + Drop>(
     };
     let mut left_slots = Slots::new(heap, room)?;
     let mut right_slots = Slots::new(heap, room)?;
-    let mut left = left_slots.log();
-    let mut right = right_slots.log();
-    let (a, b) = replay_both(halves, whole, width, &calls, &mut left, &mut right);
+    let mut left_segments = List::new(left_slots.segments.as_mut_slice());
+    let mut left_sections = List::new(left_slots.sections.as_mut_slice());
+    let mut left_files = List::new(left_slots.files.as_mut_slice());
+    let mut left_entries = List::new(left_slots.entries.as_mut_slice());
+    let mut left_answers = List::new(left_slots.answers.as_mut_slice());
+    let mut right_segments = List::new(right_slots.segments.as_mut_slice());
+    let mut right_sections = List::new(right_slots.sections.as_mut_slice());
+    let mut right_files = List::new(right_slots.files.as_mut_slice());
+    let mut right_entries = List::new(right_slots.entries.as_mut_slice());
+    let mut right_answers = List::new(right_slots.answers.as_mut_slice());
+    let (a, b) = replay_both(
+        halves,
+        whole,
+        width,
+        &calls,
+        &mut left_segments,
+        &mut left_sections,
+        &mut left_files,
+        &mut left_entries,
+        &mut left_answers,
+        &mut right_segments,
+        &mut right_sections,
+        &mut right_files,
+        &mut right_entries,
+        &mut right_answers,
+    );
+    let left = Outcome {
+        segments: left_segments.records(),
+        sections: left_sections.records(),
+        files: left_files.records(),
+        entries: left_entries.records(),
+        answers: left_answers.records(),
+    };
+    let right = Outcome {
+        segments: right_segments.records(),
+        sections: right_sections.records(),
+        files: right_files.records(),
+        entries: right_entries.records(),
+        answers: right_answers.records(),
+    };
     match (refusal_of(a), refusal_of(b)) {
-        (None, None) => compare(rt, halves, whole, &calls, &left, &right),
+        (None, None) => compare(rt, halves, whole, &calls, left, right),
         (Some(a), Some(b)) if a == b => {
             println!(rt; "the halves and the whole are both refused: {a}")?;
             Ok(())

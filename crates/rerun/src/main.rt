@@ -105,7 +105,8 @@ fn usage(rt: &HostRuntime) -> anyhow::Result<()> {
 }
 
 fn run(rt: &HostRuntime) -> anyhow::Result<()> {
-    let args: Vec<String> = env::args(rt)?.skip(1).collect(rt.alloc())?;
+    // One word more than the longest command has tells that there are too many.
+    let args: Vec<String> = env::args(rt)?.skip(1).take(5).collect(rt.alloc())?;
     let words: Vec<&str> = args.iter().map(|word| word.as_str()).collect(rt.alloc())?;
     match Command::parse(&words) {
         Some(command) => command.run(rt),

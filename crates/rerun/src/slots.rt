@@ -1,11 +1,9 @@
 // The slots of one run's lists, and how many a library wants.
 use fields::width::Width;
 use list::list::List;
-use reader::lists::{Listing, ObjectMap};
 use reader::reading::Reading;
 use replay::calls::{Answer, Call, Stage};
 use replay::driver::replay;
-use replay::lists::{Lists, Log};
 use report::room::{MOST_SYMBOLS, record_slots, steps};
 use sections::record::{SectionRecord, SegmentRecord};
 use source::source::Source;
@@ -23,11 +21,11 @@ pub(crate) struct Room {
 
 #[derive(Drop)]
 pub(crate) struct Slots {
-    segments: Vec<SegmentRecord>,
-    sections: Vec<SectionRecord>,
-    files: Vec<MapFile>,
-    entries: Vec<MapEntry>,
-    answers: Vec<Answer>,
+    pub(crate) segments: Vec<SegmentRecord>,
+    pub(crate) sections: Vec<SectionRecord>,
+    pub(crate) files: Vec<MapFile>,
+    pub(crate) entries: Vec<MapEntry>,
+    pub(crate) answers: Vec<Answer>,
 }
 
 impl Slots {
@@ -39,22 +37,6 @@ impl Slots {
             entries: vec![in heap; MapEntry::default(); room.symbols]?,
             answers: vec![in heap; Answer::Skipped; room.answers]?,
         })
-    }
-
-    // An empty log over the slots.
-    pub(crate) fn log(&mut self) -> Log<'_> {
-        let listing = Listing {
-            segments: List::new(self.segments.as_mut_slice()),
-            sections: List::new(self.sections.as_mut_slice()),
-        };
-        let map = ObjectMap {
-            files: List::new(self.files.as_mut_slice()),
-            entries: List::new(self.entries.as_mut_slice()),
-        };
-        Log {
-            lists: Lists { listing, map },
-            answers: List::new(self.answers.as_mut_slice()),
-        }
     }
 }
 
@@ -93,9 +75,23 @@ pub(crate) fn symbols<S: Source, W: Width + Drop>(
         answers: 0,
     };
     let mut slots = Slots::new(heap, room)?;
-    let mut log = slots.log();
-    match replay(s, width, &calls, &mut log) {
-        Ok(Stage::Done(reading)) => Ok(count_symbols(&reading, &log.lists.listing.sections)),
+    let mut segments = List::new(slots.segments.as_mut_slice());
+    let mut sections = List::new(slots.sections.as_mut_slice());
+    let mut files = List::new(slots.files.as_mut_slice());
+    let mut entries = List::new(slots.entries.as_mut_slice());
+    let mut answers = List::new(slots.answers.as_mut_slice());
+    let ran = replay(
+        s,
+        width,
+        &calls,
+        &mut segments,
+        &mut sections,
+        &mut files,
+        &mut entries,
+        &mut answers,
+    );
+    match ran {
+        Ok(Stage::Done(reading)) => Ok(count_symbols(&reading, &sections)),
         _ => Ok(0),
     }
 }

@@ -1,12 +1,10 @@
 // One library, and runs of calls on it.
 use fields::width::Bits64;
 use list::list::List;
-use reader::lists::{Listing, ObjectMap};
 use reader::state::{MapAnswer, StepAnswer};
 use replay::both::replay_both;
 use replay::calls::{Answer, Call};
 use replay::driver::replay;
-use replay::lists::{Lists, Log};
 use sections::record::{SectionRecord, SegmentRecord};
 use source::join::Join;
 use source::padded::Padded;
@@ -121,12 +119,13 @@ fn check_map(rt: &impl Abort, answers: &List<Answer>) -> Result<(), Fail> {
 }
 
 // The records that are left.
-fn check_records(rt: &impl Abort, lists: &Lists) -> Result<(), Fail> {
-    match (
-        lists.listing.sections.records(),
-        lists.map.files.records(),
-        lists.map.entries.records(),
-    ) {
+fn check_records(
+    rt: &impl Abort,
+    sections: &List<SectionRecord>,
+    files: &List<MapFile>,
+    entries: &List<MapEntry>,
+) -> Result<(), Fail> {
+    match (sections.records(), files.records(), entries.records()) {
         ([section, _], [file], [f, g]) => {
             assert_eq!(rt; section.offset, 0xffff_ff00);
             assert_eq!(rt; file.path, Span { start: 385, len: 3 });
@@ -161,46 +160,42 @@ impl Slots {
             answers: [Answer::Skipped; 20],
         }
     }
-
-    fn log(&mut self) -> Log {
-        let Slots {
-            segments,
-            sections,
-            files,
-            entries,
-            answers,
-        } = self;
-        Log {
-            lists: Lists {
-                listing: Listing {
-                    segments: List::new(segments),
-                    sections: List::new(sections),
-                },
-                map: ObjectMap {
-                    files: List::new(files),
-                    entries: List::new(entries),
-                },
-            },
-            answers: List::new(answers),
-        }
-    }
 }
 
-fn check(rt: &impl Abort, log: &Log) -> Result<(), Fail> {
-    check_walk(rt, &log.answers)?;
-    check_reading(rt, &log.answers)?;
-    check_map(rt, &log.answers)?;
-    check_records(rt, &log.lists)
+fn check(
+    rt: &impl Abort,
+    sections: &List<SectionRecord>,
+    files: &List<MapFile>,
+    entries: &List<MapEntry>,
+    answers: &List<Answer>,
+) -> Result<(), Fail> {
+    check_walk(rt, answers)?;
+    check_reading(rt, answers)?;
+    check_map(rt, answers)?;
+    check_records(rt, sections, files, entries)
 }
 
 #[test]
 fn a_run_on_a_library_beyond_4_gib_leaves_what_the_rules_say(rt: HostRuntime) -> Result<(), Fail> {
     let s = Padded::new(LIBRARY, 0x1_0000_0100)?;
     let mut slots = Slots::new();
-    let mut log = slots.log();
-    let r = replay(&s, Bits64, &CALLS, &mut log);
+    let mut segments = List::new(&mut slots.segments);
+    let mut sections = List::new(&mut slots.sections);
+    let mut files = List::new(&mut slots.files);
+    let mut entries = List::new(&mut slots.entries);
+    let mut answers = List::new(&mut slots.answers);
+    let r = replay(
+        &s,
+        Bits64,
+        &CALLS,
+        &mut segments,
+        &mut sections,
+        &mut files,
+        &mut entries,
+        &mut answers,
+    );
     assert!(rt; r.is_ok());
-    check(&rt, &log)
+    check(&rt, &sections, &files, &entries, &answers)
 }
 
 #[test]
@@ -210,10 +205,45 @@ fn two_halves_answer_as_the_whole_does(rt: HostRuntime) -> Result<(), Fail> {
     let whole = Padded::new(LIBRARY, 0x1_0000_0100)?;
     let mut left_slots = Slots::new();
     let mut right_slots = Slots::new();
-    let mut left = left_slots.log();
-    let mut right = right_slots.log();
-    let (a, b) = replay_both(&halves, &whole, Bits64, &CALLS, &mut left, &mut right);
+    let mut left_segments = List::new(&mut left_slots.segments);
+    let mut left_sections = List::new(&mut left_slots.sections);
+    let mut left_files = List::new(&mut left_slots.files);
+    let mut left_entries = List::new(&mut left_slots.entries);
+    let mut left_answers = List::new(&mut left_slots.answers);
+    let mut right_segments = List::new(&mut right_slots.segments);
+    let mut right_sections = List::new(&mut right_slots.sections);
+    let mut right_files = List::new(&mut right_slots.files);
+    let mut right_entries = List::new(&mut right_slots.entries);
+    let mut right_answers = List::new(&mut right_slots.answers);
+    let (a, b) = replay_both(
+        &halves,
+        &whole,
+        Bits64,
+        &CALLS,
+        &mut left_segments,
+        &mut left_sections,
+        &mut left_files,
+        &mut left_entries,
+        &mut left_answers,
+        &mut right_segments,
+        &mut right_sections,
+        &mut right_files,
+        &mut right_entries,
+        &mut right_answers,
+    );
     assert!(rt; a.is_ok() && b.is_ok());
-    check(&rt, &left)?;
-    check(&rt, &right)
+    check(
+        &rt,
+        &left_sections,
+        &left_files,
+        &left_entries,
+        &left_answers,
+    )?;
+    check(
+        &rt,
+        &right_sections,
+        &right_files,
+        &right_entries,
+        &right_answers,
+    )
 }

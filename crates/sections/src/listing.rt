@@ -1,6 +1,7 @@
 // Goes over the sections of a segment: first to see that each ends inside the segment, then to
 // list them, so that nothing is listed of a segment that is refused.
 ghost use Rattle.std.specs.Prelude.{◌≡◌, ◌+◌, ◌^◌, ◌<◌};
+ghost use Rattle.list.specs.Contents.{contents_of};
 ghost use Rattle.sections.specs.Listings.{checked, filled, record_of, read_only_of};
 
 use crate::kind::kind_of;
@@ -49,7 +50,8 @@ impl SectionTable {
         mut offsets: SectionOffsets,
         sections: &mut List<SectionRecord>,
     )
-        ensures { sections.new ≡ filled W.Width.wide (S.Source.bytes s.now) self.now self.now.count self.now.place offsets sections.old }
+        ensures contents { contents_of sections.new ≡ filled W.Width.wide (S.Source.bytes s.now) self.now self.now.count self.now.place offsets (contents_of sections.old) }
+        ensures owner { sections.new.slots.ghost_name ≡ sections.old.slots.ghost_name }
     {
         for found in SectionIter::<S, W>::new(s, *self) {
             let Ok((place, section)) = found else {

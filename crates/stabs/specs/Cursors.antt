@@ -52,3 +52,12 @@ left c (Object name) files = cursor c.pending (current_after name files)
 left c (Opening name address) files = cursor (Some (record { name = name; address = address })) c.current
 left c (Closing size) files = cursor None c.current
 left c (Static name address) files = c
+
+-- what a symbol adds, and the cursor past it: one that means nothing to the map adds nothing and leaves it
+abbrev pub told_if : MapCursor → Option Stab → Option Addition
+told_if c (Some s) = told c s
+told_if c None = None
+
+abbrev pub left_if : MapCursor → Option Stab → ℕ → MapCursor
+left_if c (Some s) files = left c s files
+left_if c None files = c

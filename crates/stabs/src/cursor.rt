@@ -1,6 +1,6 @@
 // The cursor of the object map.
 ghost use Rattle.std.specs.Prelude.{◌≡◌};
-ghost use Rattle.stabs.specs.Cursors.{begun, told, left};
+ghost use Rattle.stabs.specs.Cursors.{begun, told_if, left_if};
 
 use crate::map::MapEntry;
 use crate::stab::Stab;
@@ -38,27 +38,28 @@ impl MapCursor {
         }
     }
 
-    // Goes past a stab, where so many files are listed before it. A function that is open stays so
-    // when a file ends; a closing spends it, whether or not a file is current. The cursor's two parts
-    // and the stab are matched together, in place, which is the form that the design names.
-    pub fn advance(&mut self, stab: Stab, files: u64) -> Option<Addition>
-        ensures answer { result ≡ told self.old stab }
-        ensures after { self.new ≡ left self.old stab files }
+    // Goes past a symbol, by the stab that it is, where so many files are listed before it. One that
+    // means nothing to the map adds nothing. A function that is open stays so when a file ends; a
+    // closing spends it, whether or not a file is current. The cursor's two parts and the stab are
+    // matched together, in place, which is the form that the design names.
+    pub fn advance(&mut self, stab: Option<Stab>, files: u64) -> Option<Addition>
+        ensures answer { result ≡ told_if self.old stab }
+        ensures after { self.new ≡ left_if self.old stab files }
     {
         match (self.pending, self.current, stab) {
-            (_, _, Stab::Source | Stab::Object(None)) => {
+            (_, _, Some(Stab::Source | Stab::Object(None))) => {
                 self.current = None;
                 None
             }
-            (_, _, Stab::Object(Some(name))) => {
+            (_, _, Some(Stab::Object(Some(name)))) => {
                 self.current = Some(files);
                 Some(Addition::File(name))
             }
-            (_, _, Stab::Opening(name, address)) => {
+            (_, _, Some(Stab::Opening(name, address))) => {
                 self.pending = Some(Function { name, address });
                 None
             }
-            (pending, current, Stab::Closing(size)) => {
+            (pending, current, Some(Stab::Closing(size))) => {
                 self.pending = None;
                 pending.zip(current).map(|(function, file)| {
                     Addition::Entry(MapEntry {
@@ -69,7 +70,7 @@ impl MapCursor {
                     })
                 })
             }
-            (_, current, Stab::Static(name, address)) => current.map(|file| {
+            (_, current, Some(Stab::Static(name, address))) => current.map(|file| {
                 Addition::Entry(MapEntry {
                     address,
                     size: 0,
@@ -77,6 +78,7 @@ impl MapCursor {
                     file,
                 })
             }),
+            (_, _, None) => None,
         }
     }
 }

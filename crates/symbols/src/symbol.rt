@@ -2,6 +2,7 @@
 ghost use Rattle.std.specs.Prelude.{◌≡◌, ◌+◌, ◌-◌, ◌^◌, ◌<◌, ◌≤◌, length};
 ghost use Rattle.std.specs.Str.{bytes_eq};
 ghost use Rattle.source.specs.Bytes.{run};
+ghost use Rattle.list.specs.Contents.{contents_of};
 ghost use Rattle.symbols.specs.Symbols.{address_of, digits, is_common, is_local, is_ltmp, is_undefined, kind_by, kind_in, record_for, scope_of, section_for, stands_for_section, symbol_of};
 
 use crate::table::SymbolTable;
@@ -180,7 +181,7 @@ fn is_ltmp<S: Source>(s: &S, name: Span) -> bool
 
 // The record of a symbol's section, where that is listed.
 fn record_for(sections: &List<SectionRecord>, section: SymbolSection) -> Option<SectionRecord>
-    ensures { result ≡ record_for sections.now section }
+    ensures { result ≡ record_for (contents_of sections.now) section }
 {
     match section {
         SymbolSection::Section(n) => sections.get(usize::from(n).saturating_sub(1)),
@@ -215,7 +216,7 @@ impl<'a, S: Source> SymbolTable<'a, S> {
     // What a symbol answers, with the sections of its library in their order; a stab, nothing.
     #[tactic(auto, unfolding(crate::specs::Symbols::symbol_of))]
     pub fn symbol(&self, sections: &List<SectionRecord>, nlist: Nlist) -> Option<Symbol>
-        ensures { result ≡ symbol_of (S.Source.bytes self.now.source.now) self.now.symtab sections.now nlist }
+        ensures { result ≡ symbol_of (S.Source.bytes self.now.source.now) self.now.symtab (contents_of sections.now) nlist }
     {
         if nlist.n_type & N_STAB != 0 {
             return None;
